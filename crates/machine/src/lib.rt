@@ -1,0 +1,106 @@
+// The machine value of document 01: its parts, the setup, and the test for a broken value.
+//
+// A view's number is key * 2 + role; a place is store * 32 + view's number.
+
+// A view's record at its actor. In phase 0 only the actor is set.
+pub struct View {
+    pub actor: u8,
+    pub phase: u8,
+    // The current store, and the viewlink that is sent beside the record.
+    pub store: u8,
+    pub viewlink: u8,
+    pub changed: bool,
+    // Bit k for interaction k, and a link for each cause; a receiver has none.
+    pub causes: u16,
+    pub word: u32,
+    pub links: [u8; 16],
+}
+
+// An actor's queue: views' numbers, oldest first.
+pub struct Queue {
+    pub len: u8,
+    pub views: [u8; 16],
+}
+
+// What a store holds for a view: nothing, or an asserter, a data word and causes.
+pub struct Contents {
+    pub held: bool,
+    pub asserter: u8,
+    pub causes: u16,
+    pub word: u32,
+}
+
+// The cause links of a sender's contents.
+pub struct Links {
+    pub to: [u8; 16],
+}
+
+// An application message: nothing, or the own store and data word that were sent.
+pub struct Message {
+    pub flying: bool,
+    pub own: u8,
+    pub word: u32,
+}
+
+// A repair: nothing, or a destination and an own store.
+pub struct Repair {
+    pub flying: bool,
+    pub destination: u8,
+    pub own: u8,
+}
+
+pub enum Status {
+    Nothing,
+    ToSend,
+    Waiting,
+    Done,
+}
+
+// The coordinator's state for a view.
+pub struct Entry {
+    pub status: Status,
+    pub destination: u8,
+    pub own: u8,
+}
+
+pub struct Machine {
+    // How many there are of each.
+    pub stores: u8,
+    pub actors: u8,
+    pub made: u8,
+    // By actor.
+    pub homes: [u8; 8],
+    pub lists: [u8; 8],
+    pub queues: [Queue; 8],
+    // By store.
+    pub up: [bool; 8],
+    // By interaction, and by view.
+    pub messages: [Message; 16],
+    pub views: [View; 32],
+    pub repairs: [Repair; 32],
+    pub entries: [Entry; 32],
+    // Copies in flight, by place.
+    pub records: [u8; 256],
+    pub acks: [u8; 256],
+    pub updates: [u8; 256],
+    pub uacks: [u8; 256],
+    // What the stores hold, by place: contents; the cause links of senders, at store * 16 + key;
+    // and the viewlinks, 0 for none and p + 1 for store p.
+    pub contents: [Contents; 256],
+    pub links: [Links; 128],
+    pub viewlinks: [u8; 256],
+}
+
+// What a setup is made from: rows behind the last actor are not looked at.
+pub struct Setup {
+    pub stores: u8,
+    pub actors: u8,
+    pub homes: [u8; 8],
+    pub lists: [u8; 8],
+}
+
+// A machine and document 01's number: 0 taken, or the refusal.
+pub struct Answered {
+    pub machine: Machine,
+    pub answer: u8,
+}

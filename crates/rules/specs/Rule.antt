@@ -1,0 +1,53 @@
+-- How a rule is written: the numbers that refuse it, in their order, then the machine that it gives.
+use Prim.Native.Nat.{ℕ, _+_, _-_}
+use mathlib.Core.Bool.{Bool, true, false, _&&_, _||_, not}
+use lib.ListN.{getD}
+use lib.Dec.{ltb, leb, eqb}
+use Rattle.machine.specs.Words.{pick}
+use Rattle.machine.specs.Slots.{queue, view, noView}
+use Rattle.machine.specs.Setup.{answered}
+use Rattle.machine.specs.declared.Machine.{Machine}
+use Rattle.machine.specs.declared.View.{View}
+use Rattle.machine.specs.declared.Answered.{Answered}
+
+-- the number n where the test holds, else what the rest says
+abbrev pub refused : ℕ → Bool → ℕ → ℕ
+refused n test rest = pick test n rest
+
+abbrev pub taken : ℕ
+taken = 0
+
+-- a refused step gives back the machine unchanged
+abbrev pub decided : ℕ → Machine → Machine → Answered
+decided n m after = pick (eqb n 0) (answered 0 after) (answered n m)
+
+-- not in this machine
+abbrev pub outside : ℕ → ℕ → Bool
+outside x count = leb count x
+
+-- the head of an actor's queue
+abbrev pub head : Machine → ℕ → ℕ
+head m a = getD (queue m a .views) 0 0
+
+abbrev pub headView : Machine → ℕ → View
+headView m a = view m (head m a)
+
+abbrev pub headIn : ℕ → Machine → ℕ → Bool
+headIn phase m a = not (eqb (queue m a .len) 0) && eqb (headView m a .phase) phase
+
+abbrev pub phased : ℕ → View → View
+phased n w =
+    record {
+      actor = w .actor;
+      phase = n;
+      store = w .store;
+      viewlink = w .viewlink;
+      changed = w .changed;
+      causes = w .causes;
+      word = w .word;
+      links = w .links;
+    }
+
+-- one copy more; a sixteenth is lost at sending
+abbrev pub more : ℕ → ℕ
+more n = pick (ltb n 15) (n + 1) n

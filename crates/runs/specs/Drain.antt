@@ -1,0 +1,111 @@
+-- The drain: steps one after another, each the first that applies, until none does.
+use Prim.Native.Nat.{ℕ, zero, suc, _+_, _*_, _/_, _%_}
+use mathlib.Core.Bool.{Bool, true, false, _&&_, _||_, not}
+use mathlib.Core.List.{List, [], _∷_}
+use lib.Dec.{ltb, leb, eqb}
+use lib.ListN.{length}
+use Rattle.machine.specs.Words.{pick, bit, all}
+use Rattle.machine.specs.Slots.{number, statusNumber, queue, list, view, repair, entry, recordCopies, ackCopies, updateCopies, uackCopies}
+use Rattle.machine.specs.Broken.{brokenOf}
+use Rattle.machine.specs.declared.Machine.{Machine}
+use Rattle.rules.specs.Rule.{head, headView}
+use Rattle.rules.specs.Step.{stepOf}
+use Rattle.rules.specs.declared.Step.{Step}
+use Rattle.rules.specs.declared.Step.the-variants.{Receive, PreCheck, SendRecord, Timeout, TakeRecord, TakeAck, PostCheck, TakeRepair, SendUpdate, TakeUpdate, TakeUack, Expire}
+use Rattle.runs.specs.declared.Turn.{Turn}
+use Rattle.runs.specs.declared.Turn.the-variants.{Take, Rest}
+use Rattle.runs.specs.declared.Drained.{Drained}
+
+-- the lowest number below n of which p holds, n where there is none
+unfoldable pub lowest : ℕ → (ℕ → Bool) → ℕ
+lowest zero p = 0
+lowest (suc n) p = pick (eqb (lowest n p) n) (pick (p n) n (suc n)) (lowest n p)
+
+-- a view's key and role
+abbrev pub keyOf : ℕ → ℕ
+keyOf v = v / 2
+
+abbrev pub roleOf : ℕ → ℕ
+roleOf v = v % 2
+
+-- (a) step 2 for the lowest unreceived key
+abbrev pub unreceived : Machine → ℕ
+unreceived m = lowest (m .made) (λ k. eqb (view m (number k 1) .phase) 0)
+
+-- (b) the lowest actor with a queue
+abbrev pub busy : Machine → ℕ
+busy m = lowest (m .actors) (λ a. not (eqb (queue m a .len) 0))
+
+-- phase 3: take an ack from the current store if one is in flight, else that store takes a record copy if one is in flight,
+-- else timeout to the lowest other store in the list
+abbrev pub spare : Machine → ℕ → ℕ
+spare m a = lowest (m .stores) (λ p. bit (list m a) p && not (eqb (headView m a .store) p))
+
+abbrev pub awaiting : Machine → ℕ → Step
+awaiting m a =
+    let v = head m a in
+    let p = headView m a .store in
+    pick (not (eqb (ackCopies m p v) 0)) (TakeAck p (keyOf v) (roleOf v))
+    (pick (not (eqb (recordCopies m p v) 0)) (TakeRecord p (keyOf v) (roleOf v)) (Timeout a (spare m a)))
+
+-- phase 1 pre-check, phase 2 send, phase 4 post-check
+unfoldable pub jobStep : Machine → ℕ → Step
+jobStep m a =
+    let phase = headView m a .phase in
+    pick (eqb phase 1) (PreCheck a) (pick (eqb phase 2) (SendRecord a) (pick (eqb phase 4) (PostCheck a) (awaiting m a)))
+
+-- (c) step 9, lowest key, role 0 first
+abbrev pub repairDue : Machine → ℕ
+repairDue m = lowest (m .made * 2) (λ v. repair m v .flying)
+
+-- (d) lowest key, role 0 first, to-send: step 10; waiting: uack from the destination, else update there, else step 13
+abbrev pub unfinished : Machine → ℕ → Bool
+unfinished m v = eqb (statusNumber (entry m v .status)) 1 || eqb (statusNumber (entry m v .status)) 2
+
+abbrev pub entryDue : Machine → ℕ
+entryDue m = lowest (m .made * 2) (unfinished m)
+
+unfoldable pub entryStep : Machine → ℕ → Step
+entryStep m v =
+    let p = entry m v .destination in
+    pick (eqb (statusNumber (entry m v .status)) 1) (SendUpdate (keyOf v) (roleOf v))
+    (pick (not (eqb (uackCopies m p v) 0)) (TakeUack p (keyOf v) (roleOf v))
+    (pick (not (eqb (updateCopies m p v) 0)) (TakeUpdate p (keyOf v) (roleOf v)) (Expire (keyOf v) (roleOf v))))
+
+-- each time the first that applies
+unfoldable pub turnOf : Machine → Turn
+turnOf m =
+    pick (ltb (unreceived m) (m .made)) (Take (Receive (unreceived m)))
+    (pick (ltb (busy m) (m .actors)) (Take (jobStep m (busy m)))
+    (pick (ltb (repairDue m) (m .made * 2)) (Take (TakeRepair (keyOf (repairDue m)) (roleOf (repairDue m))))
+    (pick (ltb (entryDue m) (m .made * 2)) (Take (entryStep m (entryDue m))) Rest)))
+
+-- the steps that the drain takes, at most n of them, and the machine after them
+pub record Course : Type 0 where
+  pub machine : Machine
+  pub steps : List Step
+
+abbrev pub stays : Machine → Course
+stays m = record { machine = m; steps = [] }
+
+abbrev pub after : Step → Course → Course
+after step c = record { machine = c .machine; steps = step ∷ c .steps }
+
+abbrev pub onTurn : {A : Type 0} → Turn → A → (Step → A) → A
+onTurn Rest none some = none
+onTurn (Take step) none some = some step
+
+unfoldable pub course : ℕ → Machine → Course
+course zero m = stays m
+course (suc n) m = onTurn (turnOf m) (stays m) (λ step. after step (course n (stepOf m step .machine)))
+
+-- refused with 1, then with 5 if any store is down
+abbrev pub allUp : Machine → Bool
+allUp m = all (λ p up. leb (m .stores) p || up) (m .up)
+
+-- until none of these applies, and stops at 18 times the number of interactions in any case; its result carries the count
+unfoldable pub drainOf : Machine → Drained
+drainOf m =
+    pick (brokenOf m) (record { machine = m; answer = 1; count = 0 })
+    (pick (not (allUp m)) (record { machine = m; answer = 5; count = 0 })
+    (let c = course (m .made * 18) m in record { machine = c .machine; answer = 0; count = length (c .steps) }))

@@ -1,0 +1,4 @@
+pub mod Book
+pub mod Write
+pub mod Run
+pub mod Drain

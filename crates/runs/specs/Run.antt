@@ -1,0 +1,61 @@
+-- What a run of a book gives: the result and the answer buffer.
+use Prim.Native.Nat.{ℕ, _+_}
+use mathlib.Core.Bool.{Bool, true, false, not}
+use mathlib.Core.List.{List, [], _∷_, _++_}
+use lib.Dec.{ltb, eqb}
+use lib.ListN.{length, drop}
+use Rattle.machine.specs.Words.{pick, one}
+use Rattle.machine.specs.Setup.{legal, freshWith, emptyMachine}
+use Rattle.machine.specs.declared.Machine.{Machine}
+use Rattle.machine.specs.declared.Setup.{Setup}
+use Rattle.rules.specs.declared.Step.{Step}
+use Rattle.rules.specs.Step.{stepOf}
+use Rattle.runs.specs.Book.{wellFormed, setupRead, stepsFrom, countOf, startOf}
+use Rattle.runs.specs.declared.Ran.{Ran}
+
+-- A refused step doesn't stop the run: the machine after a list of steps, and the number of each
+unfoldable pub ran : Machine → List Step → Machine
+ran m [] = m
+ran m (step ∷ steps) = ran (stepOf m step .machine) steps
+
+unfoldable pub answers : Machine → List Step → List ℕ
+answers m [] = []
+answers m (step ∷ steps) = stepOf m step .answer ∷ answers (stepOf m step .machine) steps
+
+-- how many were taken
+unfoldable pub takenOf : List ℕ → ℕ
+takenOf [] = 0
+takenOf (n ∷ ns) = one (eqb n 0) + takenOf ns
+
+-- the steps of a book, and the fresh machine of its setup
+abbrev pub stepsRead : List ℕ → List Step
+stepsRead s = stepsFrom s (countOf s) (startOf s)
+
+abbrev pub legalSetup : Setup → Bool
+legalSetup u = legal (u .stores) (u .actors) (u .homes) (u .lists)
+
+abbrev pub freshOf : Setup → Machine
+freshOf u = freshWith (u .stores) (u .actors) (u .homes) (u .lists)
+
+-- 10 book malformed, 11 setup illegal, 12 answer buffer shorter than the steps
+unfoldable pub bookNo : List ℕ → ℕ → ℕ
+bookNo s room =
+    pick (not (wellFormed s)) 10
+    (pick (not (legalSetup (setupRead s))) 11 (pick (ltb room (length (stepsRead s))) 12 0))
+
+-- 10, 11 and 12 return the empty machine
+abbrev pub refusedRun : ℕ → Ran
+refusedRun n = record { machine = emptyMachine; answer = n; steps = 0; taken = 0 }
+
+abbrev pub fullRun : Machine → List Step → Ran
+fullRun m steps = record { machine = ran m steps; answer = 0; steps = length steps; taken = takenOf (answers m steps) }
+
+unfoldable pub runOf : List ℕ → ℕ → Ran
+runOf s room = pick (eqb (bookNo s room) 0) (fullRun (freshOf (setupRead s)) (stepsRead s)) (refusedRun (bookNo s room))
+
+-- Every step writes its number into the answer buffer at its own index; bytes behind stay. A refusal writes nothing.
+unfoldable pub bufferOf : List ℕ → List ℕ → List ℕ
+bufferOf s buffer =
+    pick (eqb (bookNo s (length buffer)) 0)
+    (answers (freshOf (setupRead s)) (stepsRead s) ++ drop (length (stepsRead s)) buffer)
+    buffer
