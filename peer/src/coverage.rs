@@ -1,0 +1,259 @@
+//! What a range of generated books covers.
+
+use std::fmt;
+use std::ops::Range;
+
+use crate::book::Book;
+use crate::generate::generate;
+use crate::machine::{members, Machine, Phase, Status, View, What, MAX_COPIES, MAX_INTERACTIONS};
+use crate::programs::MAX_INPUT;
+use crate::refusal::{number, Refusal};
+use crate::step::{Step, KINDS};
+use crate::text::kind_name;
+
+/// The answers that document 01 allows to each kind, kind 1 first.
+const POSSIBLE: [&[u8]; KINDS as usize] = [
+    &[0, 2, 3, 4, 8, 9],
+    &[0, 2, 7],
+    &[0, 2, 7],
+    &[0, 2, 7],
+    &[0, 2, 7, 8],
+    &[0, 2, 5, 7],
+    &[0, 2, 7],
+    &[0, 2, 7],
+    &[0, 2, 7],
+    &[0, 2, 7],
+    &[0, 2, 5, 7],
+    &[0, 2, 7],
+    &[0, 2, 7],
+    &[0, 2, 7],
+    &[0, 2, 5],
+    &[0, 2, 6],
+];
+
+/// Something worth meeting in a run or at its end.
+#[derive(Clone, Copy)]
+enum Event {
+    SixteenthRecord,
+    SixteenthAck,
+    SixteenthUpdate,
+    SixteenthUack,
+    SendersRepairSecond,
+    ReceiversRepairSecond,
+    StaleUack,
+    LateRecord,
+    AckOfLeftStore,
+    MovedReceipt,
+    SixteenInteractions,
+    DrainRefused,
+    WalkRefused,
+    LongWalk,
+    LongWalkAfterDrain,
+}
+
+/// What each event is called, in their order.
+const EVENT_NAMES: [&str; 15] = [
+    "a sixteenth record lost",
+    "a sixteenth ack lost",
+    "a sixteenth update lost",
+    "a sixteenth uack lost",
+    "both repairs, the sender's second",
+    "both repairs, the receiver's second",
+    "a stale uack, its destination replaced",
+    "a late record, the viewlink written by an update",
+    "an ack of a store that was left",
+    "a cause link set to where the receipt moved",
+    "sixteen interactions",
+    "a drain refused with a store down",
+    "a walk refused at an open interaction",
+    "a walk over several interactions",
+    "a walk over several interactions after a drain",
+];
+
+/// Counts over the books of some seeds.
+#[derive(Default)]
+pub struct Coverage {
+    books: usize,
+    steps: usize,
+    longest: usize,
+    refused: [usize; Refusal::NUMBERS],
+    answers: [[usize; Refusal::NUMBERS]; KINDS as usize],
+    events: [usize; EVENT_NAMES.len()],
+}
+
+impl Coverage {
+    pub fn of_seeds(seeds: Range<u64>) -> Coverage {
+        let mut coverage = Coverage::default();
+        for seed in seeds {
+            coverage.add_book(&generate(seed));
+        }
+        coverage
+    }
+
+    fn add_book(&mut self, bytes: &[u8]) {
+        self.books += 1;
+        if let Err(refusal) = self.add_run(bytes) {
+            self.refused[refusal as usize] += 1;
+        }
+    }
+
+    fn add_run(&mut self, bytes: &[u8]) -> Result<(), Refusal> {
+        Refusal::Malformed.when(bytes.len() > MAX_INPUT)?;
+        let book = Book::read(bytes)?;
+        let mut machine = Machine::setup(book.stores, &book.actors)?;
+        self.steps += book.steps.len();
+        self.longest = self.longest.max(book.steps.len());
+        for step in book.steps {
+            let before = machine.clone();
+            let answer = number(&machine.take(step));
+            self.answers[usize::from(step.kind()) - 1][usize::from(answer)] += 1;
+            if answer == 0 {
+                event(&before, step).inspect(|&event| self.add_event(event, true));
+            }
+        }
+        self.add_end(machine);
+        Ok(())
+    }
+
+    /// What the end of a run shows: its walks and its drain.
+    fn add_end(&mut self, mut machine: Machine) {
+        let made = usize::from(machine.interaction_count);
+        self.add_event(Event::SixteenInteractions, made == MAX_INTERACTIONS);
+        let walked = walks(&machine);
+        self.add_event(Event::WalkRefused, walked.contains(&Err(Refusal::Open)));
+        self.add_event(Event::LongWalk, has_long_walk(&walked));
+        let drained = machine.drain();
+        self.add_event(Event::DrainRefused, drained == Err(Refusal::StoreDown));
+        let long = has_long_walk(&walks(&machine));
+        self.add_event(Event::LongWalkAfterDrain, drained.is_ok() && long);
+    }
+
+    fn add_event(&mut self, event: Event, met: bool) {
+        self.events[event as usize] += usize::from(met);
+    }
+
+    /// What document 01 allows and these books don't show.
+    fn missing(&self) -> Vec<String> {
+        let mut missing = Vec::new();
+        for (kind, (possible, counts)) in (1..).zip(POSSIBLE.iter().zip(&self.answers)) {
+            let unseen = possible.iter().filter(|&&answer| counts[usize::from(answer)] == 0);
+            missing.extend(unseen.map(|answer| format!("{} answered {answer}", kind_name(kind))));
+        }
+        let unseen = EVENT_NAMES.iter().zip(self.events).filter(|(_, count)| *count == 0);
+        missing.extend(unseen.map(|(name, _)| name.to_string()));
+        let refusals = [Refusal::Malformed as usize, Refusal::IllegalSetup as usize];
+        let unseen = refusals.into_iter().filter(|&refusal| self.refused[refusal] == 0);
+        missing.extend(unseen.map(|refusal| format!("a book refused with {refusal}")));
+        missing
+    }
+}
+
+impl fmt::Display for Coverage {
+    fn fmt(&self, out: &mut fmt::Formatter) -> fmt::Result {
+        let malformed = self.refused[Refusal::Malformed as usize];
+        let illegal = self.refused[Refusal::IllegalSetup as usize];
+        writeln!(out, "books {}, refused with 10 {malformed}, with 11 {illegal}", self.books)?;
+        writeln!(out, "steps {}, at most {} in a book", self.steps, self.longest)?;
+        writeln!(out)?;
+        self.answer_table(out)?;
+        writeln!(out)?;
+        for (name, count) in EVENT_NAMES.iter().zip(self.events) {
+            writeln!(out, "{count:>8}  {name}")?;
+        }
+        writeln!(out)?;
+        match self.missing().as_slice() {
+            [] => writeln!(out, "nothing is missing"),
+            missing => missing.iter().try_for_each(|name| writeln!(out, "missing: {name}")),
+        }
+    }
+}
+
+impl Coverage {
+    /// One row for each kind, one column for each answer; a dot where document 01 has none.
+    fn answer_table(&self, out: &mut fmt::Formatter) -> fmt::Result {
+        const COLUMNS: [u8; 9] = [0, 2, 3, 4, 5, 6, 7, 8, 9];
+        write!(out, "{:<22}", "answers")?;
+        COLUMNS.iter().try_for_each(|answer| write!(out, "{answer:>8}"))?;
+        writeln!(out)?;
+        for (kind, counts) in (1..).zip(&self.answers) {
+            write!(out, "{kind:>2} {:<19}", kind_name(kind))?;
+            for answer in COLUMNS {
+                let count = counts[usize::from(answer)];
+                match POSSIBLE[usize::from(kind) - 1].contains(&answer) || count > 0 {
+                    true => write!(out, "{count:>8}")?,
+                    false => write!(out, "{:>8}", ".")?,
+                }
+            }
+            writeln!(out)?;
+        }
+        Ok(())
+    }
+}
+
+fn walks(machine: &Machine) -> Vec<Result<Vec<u8>, Refusal>> {
+    (0..machine.interaction_count).map(|key| machine.walk(key)).collect()
+}
+
+fn has_long_walk(walks: &[Result<Vec<u8>, Refusal>]) -> bool {
+    walks.iter().flatten().any(|keys| keys.len() > 1)
+}
+
+/// What is worth noting about a step that the machine takes.
+fn event(machine: &Machine, step: Step) -> Option<Event> {
+    match step {
+        Step::PreCheck { actor } => moved_receipt(machine, machine.head(actor)?),
+        Step::SendRecord { actor } => {
+            let view = machine.head(actor)?;
+            sixteenth(machine, What::Record, machine.record(view).store, view)
+        }
+        Step::TakeRecord { store, view } => {
+            sixteenth(machine, What::Ack, store, view).or_else(|| late(machine, store, view))
+        }
+        Step::TakeAck { store, view } => {
+            let record = machine.record(view);
+            let left = record.phase == Phase::Sent && record.store != store;
+            left.then_some(Event::AckOfLeftStore)
+        }
+        Step::TakeRepair { view } => {
+            let second = [Event::SendersRepairSecond, Event::ReceiversRepairSecond];
+            machine.side(view.opposite()).entry.map(|_| second[usize::from(view.role)])
+        }
+        Step::SendUpdate { view } => {
+            let destination = machine.side(view).entry?.destination;
+            sixteenth(machine, What::Update, destination, view)
+        }
+        Step::TakeUpdate { store, view } => sixteenth(machine, What::Uack, store, view),
+        Step::TakeUack { store, view } => {
+            let entry = machine.side(view).entry?;
+            let stale = entry.status == Status::Waiting && entry.destination != store;
+            stale.then_some(Event::StaleUack)
+        }
+        _ => None,
+    }
+}
+
+fn sixteenth(machine: &Machine, what: What, store: u8, view: View) -> Option<Event> {
+    let event = match what {
+        What::Record => Event::SixteenthRecord,
+        What::Ack => Event::SixteenthAck,
+        What::Update => Event::SixteenthUpdate,
+        What::Uack => Event::SixteenthUack,
+    };
+    (machine.place(store, view).count(what) == MAX_COPIES).then_some(event)
+}
+
+/// A first record that finds another viewlink than its own, which only an update writes.
+fn late(machine: &Machine, store: u8, view: View) -> Option<Event> {
+    let place = machine.place(store, view);
+    let other_link = place.viewlink.is_some_and(|link| link != machine.record(view).viewlink);
+    (other_link && place.contents.is_none()).then_some(Event::LateRecord)
+}
+
+fn moved_receipt(machine: &Machine, view: View) -> Option<Event> {
+    let record = machine.record(view);
+    let moved = |cause: u8| {
+        let receipt = machine.record(View::receiver(cause));
+        receipt.changed && receipt.store != record.cause_links[usize::from(cause)]
+    };
+    members(record.causes).any(moved).then_some(Event::MovedReceipt)
+}

@@ -1,0 +1,159 @@
+//! A book in the making, with the machine that it has led to so far.
+
+use super::enabled::enabled;
+use crate::book::{Book, MAX_STEPS};
+use crate::machine::{members, ActorSetup, Machine, MAX_ACTORS, MAX_INTERACTIONS, MAX_STORES};
+use crate::random::Random;
+use crate::step::{Step, KINDS};
+
+pub struct Draft {
+    pub random: Random,
+    pub machine: Machine,
+    pub book: Book,
+    temper: Temper,
+}
+
+/// How often each kind is picked, and how many interactions are made at most.
+struct Temper {
+    weights: [usize; KINDS as usize],
+    interactions: usize,
+}
+
+impl Draft {
+    /// An empty book on a random legal setup.
+    pub fn new(mut random: Random) -> Draft {
+        let (stores, actors) = setup(&mut random);
+        let machine = Machine::setup(stores, &actors).expect("the setup is legal");
+        let temper = Temper::new(&mut random);
+        Draft { random, machine, book: Book { stores, actors, steps: Vec::new() }, temper }
+    }
+
+    /// Adds the step if the machine takes it.
+    pub fn add_if_taken(&mut self, step: Step) {
+        if self.machine.take(step).is_ok() {
+            self.book.steps.push(step);
+        }
+    }
+
+    /// Adds the step, taken or refused.
+    pub fn add(&mut self, step: Step) {
+        // A refusal is what the caller is after, and the machine is as it was.
+        let _ = self.machine.take(step);
+        self.book.steps.push(step);
+    }
+
+    /// A run of legal steps; now and then one of the longest that a book can hold.
+    pub fn run_of_random_length(&mut self) {
+        let longest = self.random.one_in(100);
+        let steps = if longest { MAX_STEPS } else { self.random.between(10, 160) };
+        self.run(steps);
+    }
+
+    /// Adds so many legal steps, picked as the temper has it.
+    pub fn run(&mut self, steps: usize) {
+        for _ in 0..steps {
+            let step = self.legal_step();
+            self.add_if_taken(step);
+        }
+    }
+
+    /// A few legal steps, so that a story isn't told the same way twice.
+    pub fn interlude(&mut self) {
+        if self.random.one_in(3) {
+            let steps = self.random.between(1, 4);
+            self.run(steps);
+        }
+    }
+
+    /// A step that the machine takes. There is one always: a crash or a restart.
+    pub fn legal_step(&mut self) -> Step {
+        loop {
+            let kind = self.temper.kind(&mut self.random);
+            let step = match kind {
+                1 if usize::from(self.machine.interaction_count) >= self.temper.interactions => {
+                    None
+                }
+                1 => Some(self.legal_send()),
+                _ => self.random.pick(&enabled(&self.machine, kind)),
+            };
+            if let Some(step) = step {
+                return step;
+            }
+        }
+    }
+
+    fn legal_send(&mut self) -> Step {
+        let (from, to) = self.two_actors();
+        let received = |cause: &u8| self.machine.has_received(from, *cause);
+        let possible = (0..self.machine.interaction_count).filter(received);
+        let causes = possible.fold(0, |causes, cause| causes | 1 << cause);
+        let thinned =
+            if self.random.one_in(2) { causes } else { causes & self.random.bits() as u16 };
+        self.send_between(from, to, thinned)
+    }
+
+    /// A legal send with a random own store and data.
+    pub fn send_between(&mut self, from: u8, to: u8, causes: u16) -> Step {
+        let list = self.machine.actors[usize::from(from)].list;
+        let listed: Vec<u8> = members(list.into()).collect();
+        let own = self.random.pick(&listed).expect("a list has two stores or more");
+        let data = match self.random.one_in(4) {
+            true => self.random.bits() as u32,
+            false => self.random.below(100) as u32,
+        };
+        Step::Send { from, to, own, data, causes }
+    }
+
+    pub fn two_actors(&mut self) -> (u8, u8) {
+        let actors = usize::from(self.machine.actor_count);
+        let from = self.random.below(actors);
+        let to = (from + self.random.between(1, actors - 1)) % actors;
+        (from as u8, to as u8)
+    }
+
+    /// Lets this draft make as many interactions as a machine holds.
+    pub fn lift_limit(&mut self) {
+        self.temper.interactions = MAX_INTERACTIONS;
+    }
+}
+
+/// Mostly a few stores and actors, so that the steps meet each other.
+fn setup(random: &mut Random) -> (u8, Vec<ActorSetup>) {
+    let most_stores = if random.one_in(4) { MAX_STORES } else { 4 };
+    let most_actors = if random.one_in(4) { MAX_ACTORS } else { 3 };
+    let stores = random.between(2, most_stores);
+    let actors = random.between(2, most_actors);
+    let actors = (0..actors).map(|_| actor_setup(random, stores)).collect();
+    (stores as u8, actors)
+}
+
+fn actor_setup(random: &mut Random, stores: usize) -> ActorSetup {
+    let home = random.below(stores);
+    let other = (home + random.between(1, stores - 1)) % stores;
+    let more = random.byte() & random.byte() & ((1u16 << stores) - 1) as u8;
+    ActorSetup { home: home as u8, list: 1 << home | 1 << other | more }
+}
+
+impl Temper {
+    fn new(random: &mut Random) -> Temper {
+        let mut weights = [6, 6, 8, 8, 0, 9, 9, 9, 6, 8, 8, 8, 0, 0, 0, 4];
+        let often = |kind: usize| kind - 1;
+        weights[often(5)] = [1, 3, 9][random.below(3)];
+        weights[often(13)] = [1, 4][random.below(2)];
+        weights[often(14)] = [0, 2, 6][random.below(3)];
+        // Never zero: with every store up, a crash may be the only legal step left.
+        weights[often(15)] = [1, 1, 3][random.below(3)];
+        Temper { weights, interactions: random.between(1, MAX_INTERACTIONS) }
+    }
+
+    fn kind(&self, random: &mut Random) -> u8 {
+        let mut drawn = random.below(self.weights.iter().sum());
+        for (kind, &weight) in (1..).zip(&self.weights) {
+            if drawn < weight {
+                return kind;
+            }
+            drawn -= weight;
+        }
+        unreachable!("the draw is below the sum of the weights")
+    }
+}

@@ -1,0 +1,22 @@
+//! A second recorder, written from the documents alone, to test the proved one against.
+//!
+//! Data flows one way: bytes, [`book`], [`step`]s, [`machine`], what the [`programs`] print.
+//! Beside that stand the [`text`] form of a book, the seeded [`generate`]d books with their
+//! [`coverage`], and the [`compare`] that runs them through two other programs.
+
+mod broken;
+mod drain;
+mod rules;
+mod shrink;
+mod walk;
+
+pub mod book;
+pub mod compare;
+pub mod coverage;
+pub mod generate;
+pub mod machine;
+pub mod programs;
+pub mod random;
+pub mod refusal;
+pub mod step;
+pub mod text;

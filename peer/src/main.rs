@@ -1,0 +1,107 @@
+//! The command line: the recorder's programs, the text form, the generator, the comparison.
+
+use std::env;
+use std::error::Error;
+use std::fs::File;
+use std::io::{self, Read, Write};
+use std::ops::Range;
+use std::process::ExitCode;
+
+use peer::book::Book;
+use peer::compare::{compare, Program};
+use peer::coverage::Coverage;
+use peer::generate::generate;
+use peer::programs::{self, MAX_INPUT};
+use peer::text;
+
+const USAGE: &str = "usage:
+  peer recorder                               a book on standard input, its listing out
+  peer inspect                                a book on standard input, everything out
+  peer book [FILE]                            a text in, its book out
+  peer text [FILE]                            a book in, its text out
+  peer generate SEED                          the book of a seed out
+  peer coverage FROM COUNT                    what the books of some seeds cover
+  peer compare FROM COUNT RECORDER INSPECT    the books of some seeds through two programs";
+
+type Outcome = Result<ExitCode, Box<dyn Error>>;
+
+fn main() -> ExitCode {
+    let arguments: Vec<String> = env::args().skip(1).collect();
+    let arguments: Vec<&str> = arguments.iter().map(String::as_str).collect();
+    run(&arguments).unwrap_or_else(|error| {
+        eprintln!("peer: {error}");
+        ExitCode::from(2)
+    })
+}
+
+fn run(arguments: &[&str]) -> Outcome {
+    match *arguments {
+        ["recorder"] => print(programs::recorder(&program_input()?).as_bytes()),
+        ["inspect"] => print(programs::inspect(&program_input()?).as_bytes()),
+        ["book", ref file @ ..] if file.len() <= 1 => text_to_book(file.first().copied()),
+        ["text", ref file @ ..] if file.len() <= 1 => book_to_text(file.first().copied()),
+        ["generate", seed] => print(&generate(number(seed)?)),
+        ["coverage", from, count] => {
+            print(Coverage::of_seeds(seeds(from, count)?).to_string().as_bytes())
+        }
+        ["compare", from, count, recorder, inspect] => {
+            let programs = [Program::recorder(recorder.into()), Program::inspect(inspect.into())];
+            compare_seeds(seeds(from, count)?, &programs)
+        }
+        _ => Err(USAGE.into()),
+    }
+}
+
+fn print(bytes: &[u8]) -> Outcome {
+    io::stdout().write_all(bytes)?;
+    Ok(ExitCode::SUCCESS)
+}
+
+/// Standard input, or as much of it as shows that it is too long.
+fn program_input() -> io::Result<Vec<u8>> {
+    let mut input = Vec::new();
+    io::stdin().take(MAX_INPUT as u64 + 1).read_to_end(&mut input)?;
+    Ok(input)
+}
+
+fn text_to_book(file: Option<&str>) -> Outcome {
+    let text = String::from_utf8(read(file)?).map_err(|_| "the text isn't UTF-8")?;
+    let book = text::read(&text).map_err(|error| error.to_string())?;
+    print(&book.bytes())
+}
+
+fn book_to_text(file: Option<&str>) -> Outcome {
+    let book = Book::read(&read(file)?);
+    let book = book.map_err(|refusal| format!("refused {}: a malformed book", refusal as u8))?;
+    print(text::write(&book).as_bytes())
+}
+
+/// The bytes of the file, or of standard input where none is named.
+fn read(file: Option<&str>) -> Result<Vec<u8>, String> {
+    let mut bytes = Vec::new();
+    let result = match file {
+        Some(path) => File::open(path).and_then(|mut file| file.read_to_end(&mut bytes)),
+        None => io::stdin().read_to_end(&mut bytes),
+    };
+    result.map_err(|error| format!("{}: {error}", file.unwrap_or("standard input")))?;
+    Ok(bytes)
+}
+
+fn compare_seeds(seeds: Range<u64>, programs: &[Program]) -> Outcome {
+    if let Some(difference) = compare(seeds.clone(), programs)? {
+        print(difference.to_string().as_bytes())?;
+        return Ok(ExitCode::FAILURE);
+    }
+    let Range { start, end } = seeds;
+    print(format!("{} books from seed {start}: no difference\n", end - start).as_bytes())
+}
+
+fn seeds(from: &str, count: &str) -> Result<Range<u64>, String> {
+    let from = number(from)?;
+    let end = from.checked_add(number(count)?).ok_or("the last seed is too large")?;
+    Ok(from..end)
+}
+
+fn number(word: &str) -> Result<u64, String> {
+    word.parse().map_err(|_| format!("`{word}` isn't a number"))
+}

@@ -1,0 +1,49 @@
+//! The examples: each text's book, listing and inspection are kept beside it.
+
+use std::fs;
+use std::path::{Path, PathBuf};
+
+use peer::programs::{inspect, recorder};
+use peer::text;
+
+const EXAMPLES: [&str; 4] =
+    ["crash-and-restart", "lost-acknowledgement", "lost-record", "rollback"];
+
+fn folder() -> PathBuf {
+    Path::new(env!("CARGO_MANIFEST_DIR")).join("../examples")
+}
+
+fn kept(name: &str, extension: &str) -> Vec<u8> {
+    let path = folder().join(name).with_extension(extension);
+    fs::read(&path).unwrap_or_else(|error| panic!("{}: {error}", path.display()))
+}
+
+#[test]
+fn what_is_kept_is_what_the_peer_makes_of_the_text() {
+    for name in EXAMPLES {
+        let text = String::from_utf8(kept(name, "txt")).expect("the text is UTF-8");
+        let book = text::read(&text).unwrap_or_else(|error| panic!("{name}: {error}")).bytes();
+        assert_eq!(kept(name, "book"), book, "{name}");
+        assert_eq!(kept(name, "listing"), recorder(&book).into_bytes(), "{name}");
+        assert_eq!(kept(name, "inspect"), inspect(&book).into_bytes(), "{name}");
+    }
+}
+
+#[test]
+fn every_text_tells_its_story_first_and_is_checked() {
+    let entries = fs::read_dir(folder()).expect("there are examples");
+    let paths = entries.map(|entry| entry.expect("the folder can be read").path());
+    for path in paths.filter(|path| path.extension().is_some_and(|extension| extension == "txt")) {
+        let name = path.file_stem().and_then(|name| name.to_str()).expect("a name in UTF-8");
+        assert!(EXAMPLES.contains(&name), "{name}");
+        assert!(kept(name, "txt").starts_with(b"# "), "{name}");
+    }
+}
+
+#[test]
+fn the_rollback_finds_the_pair_after_the_drain() {
+    let inspection = String::from_utf8(kept("rollback", "inspect")).expect("lines of text");
+    let (before, after) = inspection.split_once("drain 0 ").expect("a drain that is taken");
+    assert!(before.contains("\nW 2 13\n"));
+    assert!(after.contains("\nW 2 0 3 2 0 1\n"));
+}

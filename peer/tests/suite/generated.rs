@@ -1,0 +1,99 @@
+//! The generated books, and what document 01 promises of every one of them.
+
+use peer::book::{self, Book, MAX_STEPS};
+use peer::coverage::Coverage;
+use peer::generate::generate;
+use peer::machine::{members, Machine, View};
+use peer::step::Step;
+
+/// The machines that the books of some seeds lead to, with all stores up again.
+fn machines() -> impl Iterator<Item = (u64, Machine)> {
+    (0..400).filter_map(|seed| {
+        let mut machine = book::run(&generate(seed), &mut [0; MAX_STEPS]).ok()?;
+        for store in 0..machine.store_count {
+            // Refused where the store is up, and that is as well.
+            let _ = machine.take(Step::Restart { store });
+        }
+        Some((seed, machine))
+    })
+}
+
+/// What led to a key by the causes as they were sent, depth first.
+fn reachable(machine: &Machine, key: u8, met: &mut Vec<u8>) {
+    met.push(key);
+    for cause in members(machine.record(View::sender(key)).causes) {
+        if !met.contains(&cause) {
+            reachable(machine, cause, met);
+        }
+    }
+}
+
+#[test]
+fn a_seed_gives_the_same_book_every_time() {
+    for seed in 0..40 {
+        assert_eq!(generate(seed), generate(seed));
+        assert_ne!(generate(seed), generate(seed + 1));
+    }
+}
+
+#[test]
+fn some_hundred_books_cover_everything() {
+    let coverage = Coverage::of_seeds(0..400).to_string();
+    assert!(coverage.ends_with("\nnothing is missing\n"), "{coverage}");
+}
+
+#[test]
+fn no_run_breaks_a_machine() {
+    for seed in 0..400 {
+        let mut answers = [0; MAX_STEPS];
+        if book::run(&generate(seed), &mut answers).is_ok() {
+            assert!(!answers.contains(&1), "seed {seed}");
+        }
+    }
+}
+
+#[test]
+fn a_drain_closes_everything_within_its_limit() {
+    for (seed, mut machine) in machines() {
+        let count = machine.drain().expect("every store is up");
+        assert!(count <= 18 * usize::from(machine.interaction_count), "seed {seed}");
+        assert!((0..machine.interaction_count).all(|key| machine.is_closed(key)), "seed {seed}");
+        assert_eq!(machine.drain(), Ok(0), "seed {seed}");
+    }
+}
+
+#[test]
+fn after_a_drain_every_viewlink_leads_to_the_opposite_view() {
+    for (seed, mut machine) in machines() {
+        machine.drain().expect("every store is up");
+        for view in machine.views() {
+            let place = machine.place(machine.record(view).store, view);
+            let opposite_store = machine.record(view.opposite()).store;
+            assert!(place.contents.is_some(), "seed {seed} {view:?}");
+            assert_eq!(place.viewlink, Some(opposite_store), "seed {seed} {view:?}");
+        }
+    }
+}
+
+#[test]
+fn after_a_drain_every_walk_meets_what_led_to_its_key() {
+    for (seed, mut machine) in machines() {
+        machine.drain().expect("every store is up");
+        for key in 0..machine.interaction_count {
+            let mut met = Vec::new();
+            reachable(&machine, key, &mut met);
+            assert_eq!(machine.walk(key), Ok(met), "seed {seed} key {key}");
+        }
+    }
+}
+
+#[test]
+fn legal_styles_have_legal_books() {
+    for seed in (0..400).filter(|seed| seed % 20 < 10) {
+        let bytes = generate(seed);
+        let steps = Book::read(&bytes).expect("the book is well formed").steps.len();
+        let mut answers = vec![9; steps];
+        book::run(&bytes, &mut answers).expect("the setup is legal");
+        assert!(answers.iter().all(|&answer| answer == 0), "seed {seed}");
+    }
+}

@@ -1,0 +1,12 @@
+//! The tests of the peer: document 01's runs and rules, the text form, the examples, the books.
+
+mod broken;
+mod command_line;
+mod common;
+mod examples;
+mod generated;
+mod marked_runs;
+mod programs;
+mod refusals;
+mod text_form;
+mod walk;
