@@ -1,0 +1,269 @@
+-- The drain's steps for a view that is not settled are taken, and each leaves one step less. Every array that a step writes is
+-- read again where it was written, and elsewhere. Assumes nothing.
+use Prim.Native.Nat.{ℕ, _+_, _-_, _*_, _≤_, _<_}
+use mathlib.Core.Path.{_≡_, refl, ap, _∙_}
+use mathlib.Core.Logic.{_≢_}
+use mathlib.Core.Bool.{Bool, true, false, not}
+use native.Mathlib.Omega.{arith}
+use lib.Dec.{eqb, ltb}
+use lib.ListN.{length}
+use lib.Seq.{getD-set-same, getD-set-other}
+use borrow.Author.Tests.{eq-eqb, ne-eqb, lt-leb, ltb-false}
+use Rattle.machine.specs.Words.{pick, bit}
+use Rattle.machine.specs.Slots.{number, place, noView, noRepair, isUp, list, queue, view, repair, recordCopies, ackCopies}
+use Rattle.machine.specs.Writes.{withView, withRecordCopies, withAckCopies}
+use Rattle.machine.specs.Unbroken.{Unbroken}
+use Rattle.machine.specs.declared.Machine.{Machine}
+use Rattle.machine.specs.declared.View.{View}
+use Rattle.machine.specs.declared.Repair.{Repair}
+use Rattle.rules.specs.Rule.{head, phased, more}
+use Rattle.rules.specs.Receive.{receiveNo, receivedOf, receivedView}
+use Rattle.rules.specs.PreCheck.{preCheckNo, preChecked, checkedView}
+use Rattle.rules.specs.SendRecord.{sendRecordNo, recordSent}
+use Rattle.rules.specs.Timeout.{timeoutNo, timedOut, movedView}
+use Rattle.rules.specs.TakeRecord.{takeRecordNo, recordTaken}
+use Rattle.rules.specs.TakeAck.{takeAckNo, ackTaken}
+use Rattle.rules.specs.PostCheck.{postCheckNo, postChecked, askedRepair}
+use Rattle.rules.specs.Step.{numberOf, afterOf}
+use Rattle.rules.specs.declared.Step.{Step}
+use Rattle.rules.specs.declared.Step.the-variants.{Receive, PreCheck, SendRecord, Timeout, TakeRecord, TakeAck, PostCheck}
+use Rattle.runs.specs.Drain.{keyOf, roleOf}
+use Rattle.drains.proofs.StepsLeft.{Seen, seen, receive-lowers, preCheck-lowers, sendRecord-lowers, timeout-lowers, takeRecord-lowers, takeAck-lowers, postCheck-lowers}
+use Rattle.drains.proofs.Total.{seenOf, total, total-falls, opposite}
+
+-- a step of the drain that is taken and leaves one step less, with the stores as they were
+pub record Lowers (m : Machine) (s : Step) : Type 0 where
+  pub taken : numberOf m s ≡ 0
+  pub lower : total (afterOf m s) < total m
+  pub up : afterOf m s .up ≡ m .up
+  pub stores : afterOf m s .stores ≡ m .stores
+  pub made : afterOf m s .made ≡ m .made
+
+-- a view's number is that of its key and role
+pub same-number : (v : ℕ) → number (keyOf v) (roleOf v) ≡ v
+same-number v = omega arith
+
+-- a view that is made has a slot
+pub in32 : (m : Machine) → Unbroken m → {u : ℕ} → u < m .made * 2 → u < 32
+in32 m w l = omega (arith, w .made16)
+
+-- where copies go, there are some
+pub some-more : (n : ℕ) → not (eqb (more n) 0) ≡ true
+some-more n = go (ltb n 15) refl
+  where
+    go : (b : Bool) → ltb n 15 ≡ b → not (eqb (pick b (n + 1) n) 0) ≡ true
+    go true e = rw (ne-eqb (n + 1) 0 (omega arith))
+    go false e = rw (ne-eqb n 0 (omega (arith, ltb-false n 15 e)))
+
+-- a repair is in flight after the post-check if the view has changed
+asked-flies : (r : Repair) (x : View) → r .flying ≡ false → askedRepair r x .flying ≡ x .changed
+asked-flies r x e = go (x .changed)
+  where
+    go : (b : Bool) → pick b (record { flying = true; destination = x .viewlink; own = x .store }) r .flying ≡ b
+    go true = refl
+    go false = e
+
+-- places of two views are two
+pub place-other : (p v q u : ℕ) → v < 32 → u < 32 → u ≢ v → place q u ≢ place p v
+place-other p v q u hv hu n e = n (omega arith)
+
+module _ (m : Machine) (w : Unbroken m) (v : ℕ) (hv : v < m .made * 2) where
+  abbrev me : Seen
+  me = seenOf m v
+
+  abbrev it : Seen
+  it = seenOf m (opposite v)
+
+  inViews : v < length (m .views)
+  inViews = omega (arith, w .sized .views, w .made16)
+
+  -- a view written anew
+  seen-view : (x : View) → seenOf (withView m v x) v
+      ≡ seen (x .phase) (x .changed) (me .repair) (me .status) (not (eqb (ackCopies m (x .store) v) 0)) (not (eqb (recordCopies m (x .store) v) 0)) (me .uack) (me .update)
+  unfolding seenOf
+  seen-view x = rw (getD-set-same (m .views) v x noView inViews)
+
+  view-far : (x : View) (u : ℕ) → u < m .made * 2 → u ≢ v → seenOf (withView m v x) u ≡ seenOf m u
+  unfolding seenOf
+  view-far x u l n = rw (getD-set-other (m .views) v u x noView n)
+
+  -- a view and the copies of its record, or of an ack, at its store
+  module _ (x : View) (c : ℕ) (hx : x .store < 8) where
+    inPlaces : place (x .store) v < 256
+    inPlaces = omega (arith, w .made16)
+
+    seen-record : seenOf (withRecordCopies (withView m v x) (x .store) v c) v
+        ≡ seen (x .phase) (x .changed) (me .repair) (me .status) (not (eqb (ackCopies m (x .store) v) 0)) (not (eqb c 0)) (me .uack) (me .update)
+    unfolding seenOf
+    seen-record =
+        rw (getD-set-same (m .views) v x noView inViews, getD-set-same (m .records) (place (x .store) v) c 0 (omega (arith, w .sized .records, inPlaces)))
+
+    record-far : (u : ℕ) → u < m .made * 2 → u ≢ v → seenOf (withRecordCopies (withView m v x) (x .store) v c) u ≡ seenOf m u
+    unfolding seenOf
+    record-far u l n =
+        rw (
+          getD-set-other (m .views) v u x noView n,
+          getD-set-other (m .records) (place (x .store) v) (place (view m u .store) u) c 0 (place-other (x .store) v (view m u .store) u (in32 m w hv) (in32 m w l) n),
+        )
+
+    seen-ack : seenOf (withAckCopies (withView m v x) (x .store) v c) v
+        ≡ seen (x .phase) (x .changed) (me .repair) (me .status) (not (eqb c 0)) (not (eqb (recordCopies m (x .store) v) 0)) (me .uack) (me .update)
+    unfolding seenOf
+    seen-ack =
+        rw (getD-set-same (m .views) v x noView inViews, getD-set-same (m .acks) (place (x .store) v) c 0 (omega (arith, w .sized .acks, inPlaces)))
+
+    ack-far : (u : ℕ) → u < m .made * 2 → u ≢ v → seenOf (withAckCopies (withView m v x) (x .store) v c) u ≡ seenOf m u
+    unfolding seenOf
+    ack-far u l n =
+        rw (
+          getD-set-other (m .views) v u x noView n,
+          getD-set-other (m .acks) (place (x .store) v) (place (view m u .store) u) c 0 (place-other (x .store) v (view m u .store) u (in32 m w hv) (in32 m w l) n),
+        )
+
+-- step 2
+pub receive-good : (m : Machine) → Unbroken m → (k : ℕ) → k < m .made → view m (number k 1) .phase ≡ 0 → Lowers m (Receive k)
+unfolding receiveNo receivedOf seenOf
+receive-good m w k hk h =
+    let v = number k 1 in
+    let hv : number k 1 < m .made * 2 = omega arith in
+    let x = receivedView m k in
+    let s = me m w v hv in
+    let before : s ≡ seen 0 false (s .repair) (s .status) (s .ack) (s .sent) (s .uack) (s .update) = rw (h, w .changedUnset v (in32 m w hv) h) in
+    record {
+      taken = rw (lt-leb (m .made) k hk, eq-eqb (view m v .phase) 0 h);
+      lower = total-falls m (receivedOf m k) refl v hv _ _ before (seen-view m w v hv x) (view-far m w v hv x)
+          (receive-lowers (it m w v hv) (s .repair) (s .status) (s .uack) (s .update) _ _ (s .ack) (s .sent));
+      up = refl;
+      stores = refl;
+      made = refl;
+    }
+
+-- the steps of the head of a queue
+module _ (m : Machine) (w : Unbroken m) (a : ℕ) (ha : a < m .actors) (some : queue m a .len ≢ 0) (hv : head m a < m .made * 2) where
+  abbrev v : ℕ
+  v = head m a
+
+  abbrev s : Seen
+  s = seenOf m v
+
+  phased-as : (n : ℕ) → view m v .phase ≡ n → s ≡ seen n (s .changed) (s .repair) (s .status) (s .ack) (s .sent) (s .uack) (s .update)
+  unfolding seenOf
+  phased-as n h = rw h
+
+  inStores : 1 ≤ view m v .phase → view m v .store < m .stores
+  inStores = w .storeIn v (omega (arith, w .made16))
+
+  pub preCheck-good : view m v .phase ≡ 1 → Lowers m (PreCheck a)
+  unfolding preCheckNo preChecked seenOf
+  preCheck-good h =
+      let x = checkedView m (view m v) in
+      record {
+        taken = rw (lt-leb (m .actors) a ha, ne-eqb (queue m a .len) 0 some, eq-eqb (view m v .phase) 1 h);
+        lower = total-falls m (preChecked m a) refl v hv _ _ (phased-as 1 h) (seen-view m w v hv x) (view-far m w v hv x)
+            (preCheck-lowers _ (s .repair) (s .status) (s .uack) (s .update) (s .changed) (s .ack) (s .sent));
+        up = refl;
+        stores = refl;
+        made = refl;
+      }
+
+  module _ (at : view m v .store < 8) where
+    pub sendRecord-good : view m v .phase ≡ 2 → Lowers m (SendRecord a)
+    unfolding sendRecordNo recordSent seenOf
+    sendRecord-good h =
+        let x = phased 3 (view m v) in
+        let c = more (recordCopies m (view m v .store) v) in
+        let after : seenOf (recordSent m a) v ≡ seen 3 (s .changed) (s .repair) (s .status) (s .ack) true (s .uack) (s .update)
+        = seen-record m w v hv x c at ∙ rw (some-more (recordCopies m (view m v .store) v)) in
+        record {
+          taken = rw (lt-leb (m .actors) a ha, ne-eqb (queue m a .len) 0 some, eq-eqb (view m v .phase) 2 h);
+          lower = total-falls m (recordSent m a) refl v hv _ _ (phased-as 2 h) after (record-far m w v hv x c at)
+              (sendRecord-lowers _ (s .repair) (s .status) (s .uack) (s .update) (s .changed) (s .ack) (s .sent));
+          up = refl;
+          stores = refl;
+          made = refl;
+        }
+
+    pub postCheck-good : view m v .phase ≡ 4 → Lowers m (PostCheck a)
+    unfolding postCheckNo postChecked seenOf
+    postCheck-good h =
+        let x = phased 5 (view m v) in
+        let r = askedRepair (repair m v) (view m v) in
+        let idle : repair m v .flying ≡ false = settled-only (repair m v .flying) refl in
+        let after : seenOf (postChecked m a) v ≡ seen 5 (s .changed) (s .changed) (s .status) (s .ack) (s .sent) (s .uack) (s .update)
+        = rw (getD-set-same (m .views) v x noView (inViews m w v hv), getD-set-same (m .repairs) v r noRepair (omega (arith, w .sized .repairs, w .made16)), asked-flies (repair m v) (view m v) idle) in
+        record {
+          taken = rw (lt-leb (m .actors) a ha, ne-eqb (queue m a .len) 0 some, eq-eqb (view m v .phase) 4 h);
+          lower = total-falls m (postChecked m a) refl v hv _ _ (phased-as 4 h) after
+              (λ u l n. rw (getD-set-other (m .views) v u x noView n, getD-set-other (m .repairs) v u r noRepair n))
+              (postCheck-lowers _ (s .repair) (s .status) (s .uack) (s .update) (s .changed) (s .ack) (s .sent));
+          up = refl;
+          stores = refl;
+          made = refl;
+        }
+      where
+        settled-only : (b : Bool) → repair m v .flying ≡ b → repair m v .flying ≡ false
+        settled-only false e = e
+        settled-only true e = absurd (omega (arith, w .repairSettled v (in32 m w hv) e))
+
+    -- phase 3: the spare store, the ack and the record
+    module _ (h : view m v .phase ≡ 3) where
+      pub timeout-good : (q : ℕ) → q < m .stores → bit (list m a) q ≡ true → view m v .store ≢ q
+          → eqb (ackCopies m (view m v .store) v) 0 ≡ true → eqb (recordCopies m (view m v .store) v) 0 ≡ true → Lowers m (Timeout a q)
+      unfolding timeoutNo timedOut seenOf
+      timeout-good q hq listed other noAck noRecord =
+          let x = movedView q (view m v) in
+          let before : s ≡ seen 3 (s .changed) (s .repair) (s .status) false false (s .uack) (s .update) = rw (h, noAck, noRecord) in
+          record {
+            taken = rw (lt-leb (m .actors) a ha, lt-leb (m .stores) q hq, ne-eqb (queue m a .len) 0 some, eq-eqb (view m v .phase) 3 h, listed, ne-eqb (view m v .store) q other);
+            lower = total-falls m (timedOut m a q) refl v hv _ _ before (seen-view m w v hv x) (view-far m w v hv x)
+                (timeout-lowers _ (s .repair) (s .status) (s .uack) (s .update) (s .changed) _ _);
+            up = refl;
+            stores = refl;
+            made = refl;
+          }
+
+      acked : view m v .actor ≡ a → ackTaken m (view m v .store) (keyOf v) (roleOf v)
+          ≡ withAckCopies (withView m v (phased 4 (view m v))) (view m v .store) v (ackCopies m (view m v .store) v - 1)
+      unfolding ackTaken
+      acked own = rw (same-number v, own, ne-eqb (queue m a .len) 0 some, eq-eqb v v refl, eq-eqb (view m v .phase) 3 h, eq-eqb (view m v .store) (view m v .store) refl)
+
+      pub takeAck-good : view m v .actor ≡ a → eqb (ackCopies m (view m v .store) v) 0 ≡ false → Lowers m (TakeAck (view m v .store) (keyOf v) (roleOf v))
+      unfolding takeAckNo seenOf
+      takeAck-good own there =
+          let x = phased 4 (view m v) in
+          let c = ackCopies m (view m v .store) v - 1 in
+          let e = acked own in
+          let before : s ≡ seen 3 (s .changed) (s .repair) (s .status) true (s .sent) (s .uack) (s .update) = rw (h, there) in
+          record {
+            taken = rw (lt-leb (m .stores) (view m v .store) (inStores (omega arith)), lt-leb (m .made) (keyOf v) (omega arith), lt-leb 2 (roleOf v) (omega arith), same-number v, there);
+            lower = rw e (total-falls m (withAckCopies (withView m v x) (x .store) v c) refl v hv _ _ before (seen-ack m w v hv x c at) (ack-far m w v hv x c at)
+                (takeAck-lowers _ (s .repair) (s .status) (s .uack) (s .update) (s .changed) (s .sent) _));
+            up = ap (λ (n : Machine). n .up) e;
+            stores = ap (λ (n : Machine). n .stores) e;
+            made = ap (λ (n : Machine). n .made) e;
+          }
+
+      pub takeRecord-good : isUp m (view m v .store) ≡ true → eqb (ackCopies m (view m v .store) v) 0 ≡ true → eqb (recordCopies m (view m v .store) v) 0 ≡ false
+          → Lowers m (TakeRecord (view m v .store) (keyOf v) (roleOf v))
+      unfolding takeRecordNo recordTaken seenOf
+      takeRecord-good up noAck there =
+          let p = view m v .store in
+          let n = recordTaken m p (keyOf v) (roleOf v) in
+          let c = recordCopies m p v - 1 in
+          let d = more (ackCopies m p v) in
+          let inRecords : place p v < length (m .records) = omega (arith, w .sized .records, w .made16) in
+          let inAcks : place p v < length (m .acks) = omega (arith, w .sized .acks, w .made16) in
+          let before : s ≡ seen 3 (s .changed) (s .repair) (s .status) false true (s .uack) (s .update) = rw (h, noAck, there) in
+          let after : seenOf n v ≡ seen 3 (s .changed) (s .repair) (s .status) true (not (eqb c 0)) (s .uack) (s .update)
+          = rw (same-number v, getD-set-same (m .records) (place p v) c 0 inRecords, getD-set-same (m .acks) (place p v) d 0 inAcks, some-more (ackCopies m p v), h) in
+          record {
+            taken = rw (lt-leb (m .stores) p (inStores (omega arith)), lt-leb (m .made) (keyOf v) (omega arith), lt-leb 2 (roleOf v) (omega arith), same-number v, up, there);
+            lower = total-falls m n refl v hv _ _ before after
+                (λ u l n.
+                let o = place-other p v (view m u .store) u (in32 m w hv) (in32 m w l) n in
+                rw (same-number v, getD-set-other (m .records) (place p v) (place (view m u .store) u) c 0 o, getD-set-other (m .acks) (place p v) (place (view m u .store) u) d 0 o))
+                (takeRecord-lowers _ (s .repair) (s .status) (s .uack) (s .update) (s .changed) _);
+            up = refl;
+            stores = refl;
+            made = refl;
+          }

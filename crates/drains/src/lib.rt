@@ -1,0 +1,1 @@
+// The laws of the drain: theorems over its definition, and no code.

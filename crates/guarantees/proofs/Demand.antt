@@ -1,0 +1,224 @@
+-- The guarantees 1 to 5, from the invariant that every run keeps. Assumes nothing.
+use mathlib.Core.Path.{_≡_, refl, sym, ap, _∙_, subst}
+use mathlib.Core.Logic.{_≢_}
+use mathlib.Core.Bool.{Bool, true, false}
+use mathlib.Core.List.{List, [], _∷_, _++_}
+use Prim.Native.Nat.{ℕ, zero, suc, _+_, _-_, _*_, _/_, _≤_, _<_}
+use native.Mathlib.Omega.{arith}
+use native.Mathlib.Decide.{ℕ-discrete, decLt}
+use lib.ListN.{length, getD, List·getD-eq-default}
+use Rattle.machine.specs.Words.{bit, one}
+use Rattle.machine.specs.Slots.{home, queue, standing, number, view, contents, causeLinks, viewlink, ackCopies, noView}
+use Rattle.machine.specs.Setup.{freshWith}
+use Rattle.machine.specs.Closed.{closedOf}
+use Rattle.machine.specs.Broken.{brokenOf}
+use Rattle.machine.specs.Unbroken.{Unbroken}
+use Rattle.machine.specs.declared.Machine.{Machine}
+use Rattle.machine.specs.declared.View.{View}
+use Rattle.machine.specs.declared.Contents.{Contents}
+use Rattle.machine.specs.declared.Setup.{Setup}
+use Rattle.machine.proofs.Laws.{unbroken, fresh-unbroken}
+use Rattle.rules.specs.Step.{stepOf}
+use Rattle.rules.specs.declared.Step.{Step}
+use Rattle.rules.specs.declared.Step.the-variants.{TakeAck}
+use Rattle.runs.specs.Run.{ran, freshOf}
+use Rattle.guarantees.specs.Acknowledged.{Legal, after, accepted, acknowledged, AckedBy}
+use Rattle.guarantees.specs.Guarantees.{OneAcknowledgement, Holds, KeptForEver, CauseLinks, StaysClosed, ViewLinks}
+use Rattle.guarantees.proofs.Whole.{Everywhere, Here}
+use Rattle.guarantees.proofs.Turns.{Turn}
+use Rattle.guarantees.proofs.Causes.{Cause, turn-actor, turn-word, turn-causes, turn-links}
+use Rattle.guarantees.proofs.Rules.{Homes}
+use Rattle.guarantees.proofs.Conditions.{view-made, stores8}
+use Rattle.guarantees.proofs.Reached.{Reached, Causes}
+use Rattle.guarantees.proofs.Steps.{Move, turns-to, unmade, step-reached, moves, held-stays, links-stay}
+use Rattle.guarantees.proofs.Acks.{Ack, past, now, yet, ack, accepting, run-reached, stays-past, comes-to}
+use Rattle.guarantees.proofs.Closing.{Rests, closed-of, accurate, stays-closed}
+
+-- a fresh machine has nothing that could be wrong
+pub fresh-reached : (u : Setup) → Legal u → Reached (freshOf u)
+unfolding Everywhere Homes Causes freshWith
+fresh-reached u l =
+    record {
+      fine = fresh-unbroken (u .stores) (u .actors) (u .homes) (u .lists) (l .legal) (l .homes8) (l .lists8);
+      everywhere = λ k r p hk hr hp. absurd (let z : ⊥ = omega arith in z);
+      homes = λ k hk. absurd (let z : ⊥ = omega arith in z);
+      causes = λ k j hk hj b. absurd (let z : ⊥ = omega arith in z);
+    }
+
+fresh-phase : (u : Setup) → Legal u → (v : ℕ) → view (freshOf u) v .phase ≡ 0
+unfolding freshWith
+fresh-phase u l v = go (ℕ-discrete (view (freshOf u) v .phase) 0)
+  where
+    go : Dec (view (freshOf u) v .phase ≡ 0) → view (freshOf u) v .phase ≡ 0
+    go (yes e) = e
+    go (no n) = absurd (omega (arith, view-made (freshOf u) (unbroken (freshOf u) (fresh-reached u l .fine)) v (omega arith)))
+
+pub ran-append : (m : Machine) (ss ts : List Step) → ran m (ss ++ ts) ≡ ran (ran m ss) ts
+unfolding ran
+ran-append m [] ts = refl
+ran-append m (s ∷ ss) ts = ran-append (stepOf m s .machine) ss ts
+
+same-head : (a b : ℕ) → _≡_ {A = List ℕ} (a ∷ []) (b ∷ []) → a ≡ b
+same-head a b e = cc
+
+-- what a run keeps of what a store holds
+held-run : (m : Machine) → Reached m → (ss : List Step) (p v : ℕ) → p < 8 → v < 32 → contents m p v .held ≡ true → contents (ran m ss) p v ≡ contents m p v
+unfolding ran
+held-run m c [] p v hp hv h = refl
+held-run m c (s ∷ ss) p v hp hv h =
+    let e = held-stays m (c .fine) s p v hp hv h in
+    held-run (stepOf m s .machine) (step-reached m c s) ss p v hp hv (ap (λ (x : Contents). x .held) e ∙ h) ∙ e
+
+links-run : (m : Machine) → Reached m → (ss : List Step) (p k : ℕ) → p < 8 → k < 16 → contents m p (number k 0) .held ≡ true → causeLinks (ran m ss) p k ≡ causeLinks m p k
+unfolding ran
+links-run m c [] p k hp hk h = refl
+links-run m c (s ∷ ss) p k hp hk h =
+    let e = held-stays m (c .fine) s p (number k 0) hp (omega arith) h in
+    links-run (stepOf m s .machine) (step-reached m c s) ss p k hp hk (ap (λ (x : Contents). x .held) e ∙ h) ∙ links-stay m (c .fine) s p k hp hk h
+
+closed-run : (m : Machine) → Reached m → (ss : List Step) (k : ℕ) → closedOf m k ≡ true → closedOf (ran m ss) k ≡ true
+unfolding ran
+closed-run m c [] k h = h
+closed-run m c (s ∷ ss) k h = closed-run (stepOf m s .machine) (step-reached m c s) ss k (stays-closed m (c .fine) s k h)
+
+-- an accepting step, as the turn that it is
+record Accepting (m : Machine) (s : Step) (v p : ℕ) : Type 0 where
+  made : v < m .made * 2
+  phase : view m v .phase ≡ 3
+  store : view m v .store ≡ p
+  turn : Turn m s v (view (stepOf m s .machine) v)
+  next : view (stepOf m s .machine) v .phase ≡ 4
+  there : view (stepOf m s .machine) v .store ≡ p
+
+accepts : (m : Machine) → Reached m → (s : Step) (v p : ℕ) → accepted m s v ≡ p ∷ [] → Accepting m s v p
+accepts m c s v p e = go (ack m c s v) (moves m c s v)
+  where
+    u : Unbroken m
+    u = unbroken m (c .fine)
+
+    nothing : accepted m s v ≡ [] → Accepting m s v p
+    nothing f = absurd (let z : _≡_ {A = ℕ} 1 0 = sym (ap length e) ∙ ap length f in let y : ⊥ = omega arith in y)
+
+    go : Ack m s v → Move m s (stepOf m s .machine) v → Accepting m s v p
+    go (past a b d f) t = nothing a
+    go (yet a b d) t = nothing a
+    go (now q k r x y a b d f g) (unmade z) = absurd (omega (arith, z .before))
+    go (now q k r x y a b d f g) (turns-to t) =
+        let h : q ≡ p = same-head q p (sym a ∙ e) in
+        record { made = view-made m u v (omega arith); phase = b; store = d ∙ h; turn = t; next = f; there = g ∙ h }
+
+flag : (b : Bool) → one b ≡ 1 → b ≡ true
+flag true e = refl
+flag false e = absurd (let z : ⊥ = omega arith in z)
+
+module _ (u : Setup) (l : Legal u) where
+  reached : (steps : List Step) → Reached (after u steps)
+  reached steps = run-reached (freshOf u) (fresh-reached u l) steps
+
+  soon : (steps : List Step) (v : ℕ) → 4 ≤ view (after u steps) v .phase → AckedBy u steps v (view (after u steps) v .store)
+  soon steps v h = comes-to (freshOf u) (fresh-reached u l) steps v (rw (fresh-phase u l v) (omega arith)) .one h
+
+  at-most-one : (steps : List Step) (v : ℕ) → length (acknowledged (freshOf u) steps v) ≤ 1
+  at-most-one steps v = go (decLt (view (after u steps) v .phase) 4)
+    where
+      go : Dec (view (after u steps) v .phase < 4) → length (acknowledged (freshOf u) steps v) ≤ 1
+      go (yes h) = rw (comes-to (freshOf u) (fresh-reached u l) steps v (rw (fresh-phase u l v) (omega arith)) .none h) (omega arith)
+      go (no h) = rw (soon steps v (omega arith)) (omega arith)
+
+  rests-at : (steps : List Step) (k r : ℕ) → r < 2 → closedOf (after u steps) k ≡ true → Rests (after u steps) (number k r)
+  rests-at steps k r h e = go (ℕ-discrete r 0)
+    where
+      go : Dec (r ≡ 0) → Rests (after u steps) (number k r)
+      go (yes x) = subst (λ (y : ℕ). Rests (after u steps) (number k y)) (sym x) (closed-of (after u steps) k e .0)
+      go (no n) = let x : r ≡ 1 = omega arith in subst (λ (y : ℕ). Rests (after u steps) (number k y)) (sym x) (closed-of (after u steps) k e .1)
+
+  cause-acked : (steps : List Step) (step : Step) (k p : ℕ) → accepted (after u steps) step (number k 0) ≡ p ∷ [] → (j : ℕ) → j < 16 → bit (view (after u steps) (number k 0) .causes) j ≡ true
+      → (view (after u steps) (number j 1) .actor ≡ view (after u steps) (number k 0) .actor) × AckedBy u steps (number j 1) (getD (view (after u steps) (number k 0) .links) j 0)
+  unfolding Causes
+  cause-acked steps step k p e j hj b =
+      let m = after u steps in
+      let a = accepts m (reached steps) step (number k 0) p e in
+      let hk : k < m .made = omega (arith, a .made) in
+      let c = causes-at steps k j hk hj b in
+      let h : 2 ≤ view m (number k 0) .phase = omega (arith, a .phase) in
+      (c .actor, rw (c .right h) (soon steps (number j 1) (omega (arith, c .late h))))
+    where
+      causes-at : (steps : List Step) (i j : ℕ) → i < after u steps .made → j < 16 → bit (view (after u steps) (number i 0) .causes) j ≡ true
+          → Cause (home (after u steps) (view (after u steps) (number i 0) .actor)) (standing (queue (after u steps) (view (after u steps) (number i 0) .actor))) (number j 1) (number i 0) j (view (after u steps) (number i 0)) (view (after u steps) (number j 1))
+      causes-at steps = reached steps .causes
+
+  kept : (steps : List Step) (step : Step) (k r p : ℕ) → r < 2 → accepted (after u steps) step (number k r) ≡ p ∷ [] → (further : List Step) → Holds (ran (stepOf (after u steps) step .machine) further) p k r (view (after u steps) (number k r))
+  unfolding Everywhere
+  kept steps step k r p hr e further =
+      let m = after u steps in
+      let n = stepOf m step .machine in
+      let c = reached steps in
+      let d = step-reached m c step in
+      let y = unbroken n (d .fine) in
+      let x = unbroken m (c .fine) in
+      let a = accepts m c step (number k r) p e in
+      let hk : k < m .made = omega (arith, a .made) in
+      let hv : number k r < 32 = omega (arith, a .made, x .made16) in
+      let hp : p < 8 = omega (arith, stores8 m x, rw (a .store) at (x .storeIn (number k r) hv (omega (arith, a .phase)))) in
+      let hn : number k r < n .made * 2 = view-made n y (number k r) (omega (arith, a .next)) in
+      let g = everywhere-at n d k r p (omega arith) hr hp in
+      let h : contents n p (number k r) .held ≡ true = flag (contents n p (number k r) .held) (g .keptHeld (omega (arith, a .next)) (a .there)) in
+      let q = held-run n d further p (number k r) hp hv h in
+      let f : 2 ≤ view m (number k r) .phase = omega (arith, a .phase) in
+      record {
+        held = ap (λ (w : Contents). w .held) q ∙ h;
+        asserter = ap (λ (w : Contents). w .asserter) q ∙ y .sameActor p (number k r) hp hv h ∙ turn-actor (a .turn);
+        word = ap (λ (w : Contents). w .word) q ∙ y .sameWord p (number k r) hp hv h ∙ turn-word (a .turn) (omega arith);
+        causes = ap (λ (w : Contents). w .causes) q ∙ y .sameCauses p (number k r) hp hv h ∙ turn-causes (a .turn) (omega arith);
+        links = λ z j hj.
+            let i : contents n p (number k 0) .held ≡ true = rw z at h in
+            let s : getD (causeLinks n p k) j 0 ≡ getD (view n (number k 0) .links) j 0 = y .sameLinks p k j hp (omega (arith, x .made16)) hj i in
+            ap (λ (w : List ℕ). getD w j 0) (links-run n d further p k hp (omega (arith, x .made16)) i) ∙ s
+            ∙ ap (λ (w : List ℕ). getD w j 0) (subst (λ (o : ℕ). view n (number k o) .links ≡ view m (number k r) .links) z (turn-links (a .turn) f));
+      }
+    where
+      everywhere-at : (n : Machine) → Reached n → (k r p : ℕ) → k < n .made → r < 2 → p < 8 → Here n k r p
+      everywhere-at n d = d .everywhere
+
+pub one-acknowledgement : OneAcknowledgement
+one-acknowledgement =
+    record {
+      atMostOne = at-most-one;
+      exactlyOne = λ u l steps v h. (view (after u steps) v .store, soon u l steps v h);
+      bothViews = λ u l steps k r hr e. (view (after u steps) (number k r) .store, soon u l steps (number k r) (omega (arith, rests-at u l steps k r hr e .phase)));
+      causesFirst = λ u l steps step k j p e hj b. (getD (view (after u steps) (number k 0) .links) j 0, cause-acked u l steps step k p e j hj b .1);
+    }
+
+pub kept-for-ever : KeptForEver
+unfolding ran
+kept-for-ever u l steps step k r p hr e further = rw (ran-append (freshOf u) steps (step ∷ further)) (kept u l steps step k r p hr e further)
+
+pub cause-links : CauseLinks
+cause-links = cause-acked
+
+pub stays-closed-for-ever : StaysClosed
+stays-closed-for-ever u l steps further k e = rw (ran-append (freshOf u) steps further) (closed-run (after u steps) (reached u l steps) further k e)
+
+pub view-links : ViewLinks
+view-links u l steps further k r p q hr e a b =
+    let m = after u steps in
+    let n = ran m further in
+    let c = reached u l steps in
+    let d = run-reached m c further in
+    let y = unbroken n (d .fine) in
+    let x = rests-at u l steps k r hr e in
+    let z = rests-at u l steps k (1 - r) (omega arith) e in
+    let g : p ≡ view m (number k r) .store = same-head p (view m (number k r) .store) (sym a ∙ soon u l steps (number k r) (omega (arith, x .phase))) in
+    let h : q ≡ view m (number k (1 - r)) .store = same-head q (view m (number k (1 - r)) .store) (sym b ∙ soon u l steps (number k (1 - r)) (omega (arith, z .phase))) in
+    let v = stays-past m c further (number k r) (omega (arith, x .phase)) in
+    let w = stays-past m c further (number k (1 - r)) (omega (arith, z .phase)) in
+    let o = rests-in n k r hr (closed-run m c further k e) in
+    let f = rests-in n k (1 - r) (omega arith) (closed-run m c further k e) in
+    rw (ran-append (freshOf u) steps further, g ∙ sym (v .store), h ∙ sym (w .store)) (accurate n y (d .everywhere) k r hr o f)
+  where
+    rests-in : (n : Machine) (k r : ℕ) → r < 2 → closedOf n k ≡ true → Rests n (number k r)
+    rests-in n k r h e = go (ℕ-discrete r 0)
+      where
+        go : Dec (r ≡ 0) → Rests n (number k r)
+        go (yes x) = subst (λ (y : ℕ). Rests n (number k y)) (sym x) (closed-of n k e .0)
+        go (no i) = let x : r ≡ 1 = omega arith in subst (λ (y : ℕ). Rests n (number k y)) (sym x) (closed-of n k e .1)

@@ -1,0 +1,13 @@
+pub mod Local
+pub mod Whole
+pub mod Touches
+pub mod Conditions
+pub mod Rules
+pub mod Turns
+pub mod Queues
+pub mod Causes
+pub mod Reached
+pub mod Steps
+pub mod Acks
+pub mod Closing
+pub mod Demand

@@ -1,0 +1,105 @@
+-- What a taken step makes of a queue: nothing, a view at its end, or its head gone. Assumes nothing.
+use mathlib.Core.Path.{_≡_, refl, sym, ap, _∙_, subst}
+use mathlib.Core.Logic.{_≢_}
+use mathlib.Core.Bool.{Bool, true, false}
+use mathlib.Core.List.{List, [], _∷_, _++_}
+use Prim.Native.Nat.{ℕ, zero, suc, _+_, _-_, _*_, _≤_, _<_}
+use native.Mathlib.Omega.{arith}
+use native.Mathlib.Numerals.{add-one}
+use native.Mathlib.Decide.{ℕ-discrete}
+use lib.Dec.{eqb}
+use lib.ListN.{length, getD, set, take, drop}
+use lib.Seq.{getD-set-same, getD-set-other, take-suc-set, take-append-le}
+use Rattle.machine.specs.Words.{pick}
+use Rattle.machine.specs.Slots.{number, queue, standing, view, noView, noQueue}
+use Rattle.machine.specs.Writes.{withRecordCopies, withAckCopies, withUpdateCopies, withUackCopies}
+use Rattle.machine.specs.Unbroken.{Unbroken}
+use Rattle.machine.specs.Bounds.{Bounds}
+use Rattle.machine.specs.declared.Machine.{Machine}
+use Rattle.machine.specs.declared.Queue.{Queue}
+use Rattle.rules.specs.Rule.{head, headView, phased}
+use Rattle.rules.specs.Send.{sent, joined}
+use Rattle.rules.specs.Receive.{receivedOf}
+use Rattle.rules.specs.PreCheck.{preChecked}
+use Rattle.rules.specs.SendRecord.{recordSent}
+use Rattle.rules.specs.Timeout.{timedOut}
+use Rattle.rules.specs.TakeRecord.{recordTaken}
+use Rattle.rules.specs.TakeAck.{ackTaken}
+use Rattle.rules.specs.PostCheck.{postChecked, left}
+use Rattle.rules.specs.TakeRepair.{repairTaken}
+use Rattle.rules.specs.SendUpdate.{updateSent}
+use Rattle.rules.specs.TakeUpdate.{updateTaken}
+use Rattle.rules.specs.TakeUack.{uackTaken}
+use Rattle.rules.specs.Expire.{expired}
+use Rattle.rules.specs.Lose.{lost, copies}
+use Rattle.rules.specs.Crash.{crashed}
+use Rattle.rules.specs.Restart.{restarted}
+use Rattle.rules.specs.Step.{numberOf, afterOf}
+use Rattle.rules.specs.declared.Step.{Step}
+use Rattle.rules.specs.declared.Step.the-variants.{Send, Receive, PreCheck, SendRecord, Timeout, TakeRecord, TakeAck, PostCheck, TakeRepair, SendUpdate, TakeUpdate, TakeUack, Expire, Lose, Crash, Restart}
+use Rattle.guarantees.proofs.Conditions.{Headed, actors8, post-check-taken, receive-taken, send-taken}
+
+pub data Line (m n : Machine) (a : ℕ) : Type 0 where
+  same : standing (queue n a) ≡ standing (queue m a) → Line m n a
+  longer : (v : ℕ) → standing (queue n a) ≡ standing (queue m a) ++ (v ∷ []) → Line m n a
+  shorter : standing (queue m a) ≡ head m a ∷ standing (queue n a) → view n (head m a) .phase ≡ 5 → Line m n a
+
+-- a view joins: it stands at the end
+pub joined-stands : (q : Queue) (v : ℕ) → length (q .views) ≡ 16 → q .len < 16 → standing (joined q v) ≡ standing q ++ (v ∷ [])
+joined-stands q v e h = rw add-one (take-suc-set (q .views) (q .len) v (omega arith))
+
+-- the head leaves: it stood first
+tail-stands : (l : List ℕ) (n : ℕ) → n < length l → take (n + 1) l ≡ getD l 0 0 ∷ take n (drop 1 l ++ (0 ∷ []))
+tail-stands [] n h = absurd (let z : ⊥ = omega arith in z)
+tail-stands (x ∷ xs) n h = rw (add-one, take-append-le n xs (0 ∷ []) (omega arith))
+
+left-stands : (q : Queue) → length (q .views) ≡ 16 → 0 < q .len → q .len ≤ 16 → standing q ≡ getD (q .views) 0 0 ∷ standing (left q)
+left-stands q e h f = let x : q .len ≡ (q .len - 1) + 1 = omega arith in ap (λ (n : ℕ). take n (q .views)) x ∙ tail-stands (q .views) (q .len - 1) (omega arith)
+
+module _ (m : Machine) (u : Unbroken m) (b : Bounds m) (a : ℕ) (ha : a < 8) where
+  pub lines : (s : Step) → numberOf m s ≡ 0 → Line m (afterOf m s) a
+  unfolding sent receivedOf preChecked recordSent timedOut recordTaken ackTaken postChecked repairTaken updateSent updateTaken uackTaken expired lost crashed restarted
+  lines (Send from to own word causes) e = go (ℕ-discrete a from)
+    where
+      go : Dec (a ≡ from) → Line m (sent m from to own word causes) a
+      go (yes x) =
+          let t = send-taken m from to own causes e in
+          let g : standing (getD (set (m .queues) from (joined (queue m from) (number (m .made) 0))) from noQueue) ≡ standing (joined (queue m from) (number (m .made) 0)) = ap standing (getD-set-same (m .queues) from (joined (queue m from) (number (m .made) 0)) noQueue (omega (arith, u .sized .queues))) in
+          longer (number (m .made) 0) (rw x (g ∙ joined-stands (queue m from) (number (m .made) 0) (u .queueLong from (omega arith)) (b .sendRoom from (omega arith) (t .room))))
+      go (no x) = same (ap standing (getD-set-other (m .queues) from a (joined (queue m from) (number (m .made) 0)) noQueue x))
+  lines (Receive k) e = go (ℕ-discrete a (view m (number k 1) .actor)) (receive-taken m k e)
+    where
+      go : Dec (a ≡ view m (number k 1) .actor) → (k < m .made) × (view m (number k 1) .phase ≡ 0) → Line m (receivedOf m k) a
+      go (yes x) t =
+          let i = view m (number k 1) .actor in
+          let g : standing (getD (set (m .queues) i (joined (queue m i) (number k 1))) i noQueue) ≡ standing (joined (queue m i) (number k 1)) = ap standing (getD-set-same (m .queues) i (joined (queue m i) (number k 1)) noQueue (omega (arith, u .sized .queues))) in
+          longer (number k 1) (rw x (g ∙ joined-stands (queue m i) (number k 1) (u .queueLong i (omega arith)) (b .receiveRoom k (t .0) (t .1))))
+      go (no x) t = same (ap standing (getD-set-other (m .queues) (view m (number k 1) .actor) a (joined (queue m (view m (number k 1) .actor)) (number k 1)) noQueue x))
+  lines (PreCheck i) e = same refl
+  lines (SendRecord i) e = same refl
+  lines (Timeout i p) e = same refl
+  lines (TakeRecord p k r) e = same refl
+  lines (TakeAck p k r) e = same refl
+  lines (PostCheck i) e = go (ℕ-discrete a i) (post-check-taken m u i e)
+    where
+      go : Dec (a ≡ i) → Headed m i 4 → Line m (postChecked m i) a
+      go (yes x) g =
+          let l : standing (getD (set (m .queues) i (left (queue m i))) i noQueue) ≡ standing (left (queue m i)) = ap standing (getD-set-same (m .queues) i (left (queue m i)) noQueue (omega (arith, u .sized .queues))) in
+          shorter (rw x (left-stands (queue m i) (u .queueLong i (omega arith)) (g .some) (u .queue16 i (omega arith)) ∙ ap (λ (y : List ℕ). head m i ∷ y) (sym l)))
+          (rw (x, getD-set-same (m .views) (head m i) (phased 5 (headView m i)) noView (omega (arith, u .sized .views, u .made16, g .made))))
+      go (no x) g = same (ap standing (getD-set-other (m .queues) i a (left (queue m i)) noQueue x))
+  lines (TakeRepair k r) e = same refl
+  lines (SendUpdate k r) e = same refl
+  lines (TakeUpdate p k r) e = same refl
+  lines (TakeUack p k r) e = same refl
+  lines (Expire k r) e = same refl
+  lines (Lose what p k r) e = go (copies m what p (number k r) - 1) (eqb what 0) (eqb what 1) (eqb what 2)
+    where
+      go : (n : ℕ) (x y z : Bool)
+          → Line m (pick x (withRecordCopies m p (number k r) n) (pick y (withAckCopies m p (number k r) n) (pick z (withUpdateCopies m p (number k r) n) (withUackCopies m p (number k r) n)))) a
+      go n true y z = same refl
+      go n false true z = same refl
+      go n false false true = same refl
+      go n false false false = same refl
+  lines (Crash p) e = same refl
+  lines (Restart p) e = same refl

@@ -1,0 +1,267 @@
+-- The invariant of every machine that a run reaches: not broken, the local record everywhere, the homes, and the causes.
+-- Kept by every step, and true of a fresh machine. Assumes nothing.
+use mathlib.Core.Path.{_≡_, refl, sym, ap, _∙_, subst}
+use mathlib.Core.Logic.{_≢_}
+use mathlib.Core.Bool.{Bool, true, false, _&&_, _||_, not}
+use mathlib.Core.List.{List, [], _∷_, _++_}
+use Prim.Native.Nat.{ℕ, zero, suc, _+_, _-_, _*_, _/_, _≤_, _<_}
+use native.Mathlib.Omega.{arith}
+use native.Mathlib.Decide.{ℕ-discrete, decLt}
+use borrow.Author.Tests.{eqb-true, eqb-false, ltb-true, not-true, not-false}
+use lib.Dec.{eqb, ltb}
+use lib.ListN.{length, getD, set, length-set}
+use lib.Seq.{getD-set-same, getD-set-other}
+use Rattle.machine.specs.Words.{pick, bit, one, table, allBelow, times}
+use Rattle.machine.specs.Slots.{number, queue, standing, view, home, noView, noQueue}
+use Rattle.machine.specs.Writes.{withRecordCopies, withAckCopies, withUpdateCopies, withUackCopies}
+use Rattle.machine.specs.Broken.{brokenOf}
+use Rattle.machine.specs.Unbroken.{Unbroken}
+use Rattle.machine.specs.declared.Machine.{Machine}
+use Rattle.machine.specs.declared.View.{View}
+use Rattle.machine.proofs.Laws.{unbroken, bounds}
+use Rattle.machine.proofs.Laws.Every.{table-at, below-at}
+use Rattle.rules.specs.Rule.{head}
+use Rattle.rules.specs.Send.{sendNo, sent, sentView, awaitedView, joined, homeLink, causesKnown, causeKnown, received}
+use Rattle.rules.specs.Receive.{receivedOf}
+use Rattle.rules.specs.PreCheck.{preChecked}
+use Rattle.rules.specs.SendRecord.{recordSent}
+use Rattle.rules.specs.Timeout.{timedOut}
+use Rattle.rules.specs.TakeRecord.{recordTaken}
+use Rattle.rules.specs.TakeAck.{ackTaken}
+use Rattle.rules.specs.PostCheck.{postChecked}
+use Rattle.rules.specs.TakeRepair.{repairTaken}
+use Rattle.rules.specs.SendUpdate.{updateSent}
+use Rattle.rules.specs.TakeUpdate.{updateTaken}
+use Rattle.rules.specs.TakeUack.{uackTaken}
+use Rattle.rules.specs.Expire.{expired}
+use Rattle.rules.specs.Lose.{lost, copies}
+use Rattle.rules.specs.Crash.{crashed}
+use Rattle.rules.specs.Restart.{restarted}
+use Rattle.rules.specs.Step.{numberOf, afterOf}
+use Rattle.rules.specs.declared.Step.{Step}
+use Rattle.rules.specs.declared.Step.the-variants.{Send, Receive, PreCheck, SendRecord, Timeout, TakeRecord, TakeAck, PostCheck, TakeRepair, SendUpdate, TakeUpdate, TakeUack, Expire, Lose, Crash, Restart}
+use Rattle.guarantees.proofs.Local.{Good}
+use Rattle.guarantees.proofs.Whole.{Everywhere}
+use Rattle.guarantees.proofs.Conditions.{and-true, actors8, send-taken}
+use Rattle.guarantees.proofs.Rules.{Homes, here, sends, receives, pre-checks, sends-record, times-out, takes-record, takes-ack, post-checks, takes-repair, sends-update, takes-update, takes-uack, expires, loses, goes-up-or-down}
+use Rattle.guarantees.proofs.Turns.{Turn, turns}
+use Rattle.guarantees.proofs.Queues.{Line, same, longer, shorter, lines, joined-stands}
+use Rattle.guarantees.proofs.Causes.{Cause, Ahead, ahead-last, ahead-longer, ahead-shorter, times-in, turn-actor, turn-made, turn-viewlink, turn-causes, keep}
+
+unfoldable pub Causes : Machine → Type 0
+Causes m =
+    (k j : ℕ) → k < m .made → j < 16 → bit (view m (number k 0) .causes) j ≡ true
+    → Cause (home m (view m (number k 0) .actor)) (standing (queue m (view m (number k 0) .actor))) (number j 1) (number k 0) j (view m (number k 0)) (view m (number j 1))
+
+pub record Reached (m : Machine) : Type 0 where
+  pub fine : brokenOf m ≡ false
+  pub everywhere : Everywhere m
+  pub homes : Homes m
+  pub causes : Causes m
+
+-- a rule leaves the homes, and makes at most one interaction
+frame : (m : Machine) (s : Step) → (afterOf m s .homes ≡ m .homes) × (m .made ≤ afterOf m s .made)
+unfolding sent receivedOf preChecked recordSent timedOut recordTaken ackTaken postChecked repairTaken updateSent updateTaken uackTaken expired lost crashed restarted
+frame m (Send from to own word causes) = (refl, omega arith)
+frame m (Receive k) = (refl, omega arith)
+frame m (PreCheck a) = (refl, omega arith)
+frame m (SendRecord a) = (refl, omega arith)
+frame m (Timeout a p) = (refl, omega arith)
+frame m (TakeRecord p k r) = (refl, omega arith)
+frame m (TakeAck p k r) = (refl, omega arith)
+frame m (PostCheck a) = (refl, omega arith)
+frame m (TakeRepair k r) = (refl, omega arith)
+frame m (SendUpdate k r) = (refl, omega arith)
+frame m (TakeUpdate p k r) = (refl, omega arith)
+frame m (TakeUack p k r) = (refl, omega arith)
+frame m (Expire k r) = (refl, omega arith)
+frame m (Lose what p k r) = go (copies m what p (number k r) - 1) (eqb what 0) (eqb what 1) (eqb what 2)
+  where
+    go : (n : ℕ) (x y z : Bool) → (pick x (withRecordCopies m p (number k r) n) (pick y (withAckCopies m p (number k r) n) (pick z (withUpdateCopies m p (number k r) n) (withUackCopies m p (number k r) n))) .homes ≡ m .homes)
+        × (m .made ≤ pick x (withRecordCopies m p (number k r) n) (pick y (withAckCopies m p (number k r) n) (pick z (withUpdateCopies m p (number k r) n) (withUackCopies m p (number k r) n))) .made)
+    go n true y z = (refl, omega arith)
+    go n false true z = (refl, omega arith)
+    go n false false true = (refl, omega arith)
+    go n false false false = (refl, omega arith)
+frame m (Crash p) = (refl, omega arith)
+frame m (Restart p) = (refl, omega arith)
+
+-- an interaction after a step is one from before it, or the one that the step sent
+pub data Key (m : Machine) (s : Step) (k : ℕ) : Type 0 where
+  old : k < m .made → Key m s k
+  new : (from to own word causes : ℕ) → s ≡ Send from to own word causes → k ≡ m .made → Key m s k
+
+pub key : (m : Machine) (s : Step) (k : ℕ) → k < afterOf m s .made → Key m s k
+unfolding sent receivedOf preChecked recordSent timedOut recordTaken ackTaken postChecked repairTaken updateSent updateTaken uackTaken expired lost crashed restarted
+key m (Send from to own word causes) k h = elim (decLt k (m .made)) [ yes l ↦ old l | no n ↦ new from to own word causes refl (omega arith) ]
+key m (Receive i) k h = old h
+key m (PreCheck a) k h = old h
+key m (SendRecord a) k h = old h
+key m (Timeout a p) k h = old h
+key m (TakeRecord p i r) k h = old h
+key m (TakeAck p i r) k h = old h
+key m (PostCheck a) k h = old h
+key m (TakeRepair i r) k h = old h
+key m (SendUpdate i r) k h = old h
+key m (TakeUpdate p i r) k h = old h
+key m (TakeUack p i r) k h = old h
+key m (Expire i r) k h = old h
+key m (Lose what p i r) k h = go (copies m what p (number i r) - 1) (eqb what 0) (eqb what 1) (eqb what 2) h
+  where
+    go : (n : ℕ) (x y z : Bool) → k < pick x (withRecordCopies m p (number i r) n) (pick y (withAckCopies m p (number i r) n) (pick z (withUpdateCopies m p (number i r) n) (withUackCopies m p (number i r) n))) .made → Key m (Lose what p i r) k
+    go n true y z g = old g
+    go n false true z g = old g
+    go n false false true g = old g
+    go n false false false g = old g
+key m (Crash p) k h = old h
+key m (Restart p) k h = old h
+
+module _ (m : Machine) (c : Reached m) where
+  u : Unbroken m
+  u = unbroken m (c .fine)
+
+  pub everywhere-kept : (s : Step) → numberOf m s ≡ 0 → Everywhere (afterOf m s)
+  unfolding crashed restarted
+  everywhere-kept (Send from to own word causes) e = sends m u (c .everywhere) from to own word causes e
+  everywhere-kept (Receive k) e = receives m u (c .everywhere) (c .homes) k e
+  everywhere-kept (PreCheck a) e = pre-checks m u (c .everywhere) a e
+  everywhere-kept (SendRecord a) e = sends-record m u (c .everywhere) a e
+  everywhere-kept (Timeout a p) e = times-out m u (c .everywhere) a p e
+  everywhere-kept (TakeRecord p k r) e = takes-record m u (c .everywhere) p k r e
+  everywhere-kept (TakeAck p k r) e = takes-ack m u (c .everywhere) p k r e
+  everywhere-kept (PostCheck a) e = post-checks m u (c .everywhere) a e
+  everywhere-kept (TakeRepair k r) e = takes-repair m u (c .everywhere) k r e
+  everywhere-kept (SendUpdate k r) e = sends-update m u (c .everywhere) k r e
+  everywhere-kept (TakeUpdate p k r) e = takes-update m u (c .everywhere) p k r e
+  everywhere-kept (TakeUack p k r) e = takes-uack m u (c .everywhere) p k r e
+  everywhere-kept (Expire k r) e = expires m u (c .everywhere) k r e
+  everywhere-kept (Lose what p k r) e = loses m u (c .everywhere) what p k r e
+  everywhere-kept (Crash p) e = goes-up-or-down m u (c .everywhere) p false
+  everywhere-kept (Restart p) e = goes-up-or-down m u (c .everywhere) p true
+
+  -- a home is read where it was
+  home-same : (s : Step) (a : ℕ) → home (afterOf m s) a ≡ home m a
+  home-same s a = ap (λ (l : List ℕ). getD l a 0) (frame m s .0)
+
+  -- the two views of a new interaction
+  pub new-sender : (from to own word causes : ℕ) → m .made < 16 → view (sent m from to own word causes) (number (m .made) 0) ≡ sentView m from to own word causes
+  unfolding sent
+  new-sender from to own word causes h =
+      getD-set-other (set (m .views) (number (m .made) 0) (sentView m from to own word causes)) (number (m .made) 1) (number (m .made) 0) (awaitedView to) noView (λ e. let z : ⊥ = omega arith in z)
+      ∙ getD-set-same (m .views) (number (m .made) 0) (sentView m from to own word causes) noView (omega (arith, u .sized .views))
+
+  pub new-receiver : (from to own word causes : ℕ) → m .made < 16 → view (sent m from to own word causes) (number (m .made) 1) ≡ awaitedView to
+  unfolding sent
+  new-receiver from to own word causes h =
+      getD-set-same (set (m .views) (number (m .made) 0) (sentView m from to own word causes)) (number (m .made) 1) (awaitedView to) noView (rw length-set (omega (arith, u .sized .views)))
+
+  pub homes-kept : (s : Step) → numberOf m s ≡ 0 → Homes (afterOf m s)
+  unfolding Homes
+  homes-kept s e k h = go (key m s k h)
+    where
+      go : Key m s k → view (afterOf m s) (number k 0) .viewlink ≡ home (afterOf m s) (view (afterOf m s) (number k 1) .actor)
+      go (old l) =
+          let a = turns m u (number k 0) (omega arith) s e in
+          let b = turns m u (number k 1) (omega arith) s e in
+          turn-viewlink a (u .senderMade k l) ∙ homes-at k l ∙ sym (home-same s (view (afterOf m s) (number k 1) .actor) ∙ ap (home m) (turn-actor b))
+        where
+          homes-at : (i : ℕ) → i < m .made → view m (number i 0) .viewlink ≡ home m (view m (number i 1) .actor)
+          homes-at = c .homes
+      go (new from to own word causes x y) =
+          let t = send-taken m from to own causes (rw x at e) in
+          subst (λ (z : Step). view (afterOf m z) (number k 0) .viewlink ≡ home (afterOf m z) (view (afterOf m z) (number k 1) .actor)) (sym x)
+          (rw y (ap (λ (w : View). w .viewlink) (new-sender from to own word causes (t .room)) ∙ sym (home-same (Send from to own word causes) _ ∙ ap (λ (w : View). home m (w .actor)) (new-receiver from to own word causes (t .room)))))
+
+  -- a receipt that has not moved is at its actor's home
+  unmoved : (j : ℕ) → j < m .made → 1 ≤ view m (number j 1) .phase → view m (number j 1) .changed ≡ false → view m (number j 1) .store ≡ home m (view m (number j 1) .actor)
+  unfolding Homes
+  unmoved j h f g =
+      let a = here m (u .sized) (u .made16) (c .everywhere) j 1 0 h (omega arith) (omega arith) in
+      a .first (rw g refl) f (u .senderMade j h) ∙ homes-at j h
+    where
+      homes-at : (i : ℕ) → i < m .made → view m (number i 0) .viewlink ≡ home m (view m (number i 1) .actor)
+      homes-at = c .homes
+
+  -- whoever stands ahead still does, unless it was the head that settled
+  still-ahead : (n : Machine) (x y a : ℕ) → Line m n a → Ahead x y (standing (queue m a)) → view n x .phase ≢ 5 → Ahead x y (standing (queue n a))
+  still-ahead n x y a (same e) h f = subst (Ahead x y) (sym e) h
+  still-ahead n x y a (longer v e) h f = subst (Ahead x y) (sym e) (ahead-longer x y v (standing (queue m a)) h)
+  still-ahead n x y a (shorter e g) h f =
+      ahead-shorter x y (head m a) (standing (queue n a)) (λ d. f (ap (λ (z : ℕ). view n z .phase) d ∙ g)) (subst (Ahead x y) e h)
+
+  knows : (from causes j : ℕ) → causesKnown m from causes ≡ true → j < 16 → bit causes j ≡ true → (j < m .made) × (1 ≤ view m (number j 1) .phase) × (view m (number j 1) .actor ≡ from)
+  unfolding causesKnown
+  knows from causes j k hj b =
+      let a : causeKnown m from causes j ≡ true = below-at 16 (causeKnown m from causes) k j hj in
+      let r : received m from j ≡ true = rw b at a in
+      let x = and-true (ltb j (m .made) && not (eqb (view m (number j 1) .phase) 0)) (eqb (view m (number j 1) .actor) from) r in
+      let y = and-true (ltb j (m .made)) (not (eqb (view m (number j 1) .phase) 0)) (x .0) in
+      let z = eqb-false (view m (number j 1) .phase) 0 (not-true (eqb (view m (number j 1) .phase) 0) (y .1)) in
+      (ltb-true j (m .made) (y .0), omega arith, eqb-true (view m (number j 1) .actor) from (x .1))
+
+  other-view : (from to own word causes j : ℕ) → j < m .made → view (sent m from to own word causes) (number j 1) ≡ view m (number j 1)
+  unfolding sent
+  other-view from to own word causes j h =
+      getD-set-other (set (m .views) (number (m .made) 0) (sentView m from to own word causes)) (number (m .made) 1) (number j 1) (awaitedView to) noView (λ e. let z : ⊥ = omega arith in z)
+      ∙ getD-set-other (m .views) (number (m .made) 0) (number j 1) (sentView m from to own word causes) noView (λ e. let z : ⊥ = omega arith in z)
+
+  new-queue : (from to own word causes : ℕ) → from < m .actors → m .made < 16 → standing (queue (sent m from to own word causes) from) ≡ standing (queue m from) ++ (number (m .made) 0 ∷ [])
+  unfolding sent
+  new-queue from to own word causes h g =
+      let f : from < 8 = omega (arith, actors8 m u) in
+      ap standing (getD-set-same (m .queues) from (joined (queue m from) (number (m .made) 0)) noQueue (omega (arith, u .sized .queues)))
+      ∙ joined-stands (queue m from) (number (m .made) 0) (u .queueLong from f) (bounds m (c .fine) .sendRoom from f g)
+
+  queued : (from j : ℕ) → j < m .made → 1 ≤ view m (number j 1) .phase → view m (number j 1) .phase ≢ 5 → view m (number j 1) .actor ≡ from → 1 ≤ times (number j 1) (standing (queue m from))
+  queued from j h f n a =
+      let v : number j 1 < 32 = omega (arith, u .made16) in
+      let p = u .phase5 (number j 1) (omega arith) in
+      let q = u .queuedOnce (number j 1) v f (omega arith) in
+      subst (λ (x : ℕ). 1 ≤ times (number j 1) (standing (queue m x))) a (omega arith)
+
+  -- the causes of a send: its job received each, and what isn't settled stands in its queue
+  new-cause : (from to own word causes : ℕ) → sendNo m from to own causes ≡ 0 → (k : ℕ) → k ≡ m .made → (j : ℕ) → j < 16 → bit (view (sent m from to own word causes) (number k 0) .causes) j ≡ true
+      → Cause (home (sent m from to own word causes) (view (sent m from to own word causes) (number k 0) .actor)) (standing (queue (sent m from to own word causes) (view (sent m from to own word causes) (number k 0) .actor))) (number j 1) (number k 0) j
+      (view (sent m from to own word causes) (number k 0)) (view (sent m from to own word causes) (number j 1))
+  new-cause from to own word causes e k y j hj b =
+      let t = send-taken m from to own causes e in
+      let w = new-sender from to own word causes (t .room) in
+      let g : bit causes j ≡ true = rw (y, w) at b in
+      let r = knows from causes j (t .known) hj g in
+      let o = other-view from to own word causes j (r .0) in
+      let q = new-queue from to own word causes (t .from) (t .room) in
+      rw (y, w, o, home-same (Send from to own word causes) from, q)
+      (record {
+        actor = r .2;
+        made = r .1;
+        early = λ h n. ahead-last (number j 1) (number (m .made) 0) (standing (queue m from)) (times-in (number j 1) (standing (queue m from)) (queued from j (r .0) (r .1) n (r .2)));
+        fresh = λ h. table-at (homeLink causes (home m from)) 16 0 j hj ∙ rw g;
+        late = λ h. absurd (let z : ⊥ = omega arith in z);
+        right = λ h. absurd (let z : ⊥ = omega arith in z);
+      })
+
+  pub causes-kept : (s : Step) → numberOf m s ≡ 0 → Causes (afterOf m s)
+  unfolding Causes
+  causes-kept s e k j h hj b = go (key m s k h)
+    where
+      n : Machine
+      n = afterOf m s
+
+      causes-at : (i : ℕ) → i < m .made → bit (view m (number i 0) .causes) j ≡ true
+          → Cause (home m (view m (number i 0) .actor)) (standing (queue m (view m (number i 0) .actor))) (number j 1) (number i 0) j (view m (number i 0)) (view m (number j 1))
+      causes-at i hi g = c .causes i j hi hj g
+
+      go : Key m s k
+          → Cause (home (afterOf m s) (view (afterOf m s) (number k 0) .actor)) (standing (queue (afterOf m s) (view (afterOf m s) (number k 0) .actor))) (number j 1) (number k 0) j (view (afterOf m s) (number k 0)) (view (afterOf m s) (number j 1))
+      go (old l) =
+          let a = turns m u (number k 0) (omega arith) s e in
+          let d = turn-actor a in
+          let g : bit (view m (number k 0) .causes) j ≡ true = rw (sym (turn-causes a (u .senderMade k l))) b in
+          let i : j < k = omega (arith, u .causeBelow (number k 0) j (omega (arith, u .made16)) hj g) in
+          let q = lines m u (bounds m (c .fine)) (view m (number k 0) .actor) (omega (arith, actors8 m u, u .actorIn (number k 0) (omega arith))) s e in
+          rw (home-same s (view (afterOf m s) (number k 0) .actor), d)
+          (keep m u s j k hj l a (turns m u (number j 1) (omega arith) s e) g (unmoved j (omega arith))
+          (λ x y. still-ahead (afterOf m s) (number j 1) (number k 0) (view m (number k 0) .actor) q x y) (causes-at k l g))
+      go (new from to own word causes x y) =
+          subst (λ (z : Step). Cause (home (afterOf m z) (view (afterOf m z) (number k 0) .actor)) (standing (queue (afterOf m z) (view (afterOf m z) (number k 0) .actor))) (number j 1) (number k 0) j (view (afterOf m z) (number k 0)) (view (afterOf m z) (number j 1))) (sym x)
+          (new-cause from to own word causes (rw x at e) k y j hj (rw x at b))

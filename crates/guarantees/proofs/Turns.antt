@@ -1,0 +1,119 @@
+-- What a taken step makes of a view's record that is there: one of seven turns. The kinds are walked here once.
+-- Assumes nothing.
+use mathlib.Core.Path.{_≡_, refl, sym, ap, _∙_, subst}
+use mathlib.Core.Logic.{_≢_}
+use mathlib.Core.Bool.{Bool, true, false, _&&_}
+use mathlib.Core.List.{List}
+use Prim.Native.Nat.{ℕ, zero, suc, _+_, _-_, _*_, _/_, _%_, _≤_, _<_}
+use native.Mathlib.Omega.{arith}
+use native.Mathlib.Decide.{ℕ-discrete}
+use borrow.Author.Tests.{eqb-true}
+use lib.Dec.{eqb}
+use lib.ListN.{length, getD, set, length-set}
+use lib.Seq.{getD-set-same, getD-set-other}
+use Rattle.machine.specs.Words.{pick, table}
+use Rattle.machine.specs.Slots.{number, view, message, home, noView}
+use Rattle.machine.specs.Writes.{withRecordCopies, withAckCopies, withUpdateCopies, withUackCopies}
+use Rattle.machine.specs.Unbroken.{Unbroken}
+use Rattle.machine.specs.declared.Machine.{Machine}
+use Rattle.machine.specs.declared.View.{View}
+use Rattle.rules.specs.Rule.{head, headView, phased}
+use Rattle.rules.specs.Send.{sent, sentView, awaitedView}
+use Rattle.rules.specs.Receive.{receivedOf, receivedView}
+use Rattle.rules.specs.PreCheck.{preChecked, checkedView}
+use Rattle.rules.specs.SendRecord.{recordSent}
+use Rattle.rules.specs.Timeout.{timedOut, movedView}
+use Rattle.rules.specs.TakeRecord.{recordTaken}
+use Rattle.rules.specs.TakeAck.{ackTaken, accepts, isHead, ackedView}
+use Rattle.rules.specs.PostCheck.{postChecked}
+use Rattle.rules.specs.TakeRepair.{repairTaken}
+use Rattle.rules.specs.SendUpdate.{updateSent}
+use Rattle.rules.specs.TakeUpdate.{updateTaken}
+use Rattle.rules.specs.TakeUack.{uackTaken}
+use Rattle.rules.specs.Expire.{expired}
+use Rattle.rules.specs.Lose.{lost, copies}
+use Rattle.rules.specs.Crash.{crashed}
+use Rattle.rules.specs.Restart.{restarted}
+use Rattle.rules.specs.Step.{numberOf, afterOf}
+use Rattle.rules.specs.declared.Step.{Step}
+use Rattle.rules.specs.declared.Step.the-variants.{Send, Receive, PreCheck, SendRecord, Timeout, TakeRecord, TakeAck, PostCheck, TakeRepair, SendUpdate, TakeUpdate, TakeUack, Expire, Lose, Crash, Restart}
+use Rattle.guarantees.proofs.Conditions.{Headed, and-true, pre-check-taken, send-record-taken, post-check-taken, timeout-taken, take-ack-taken, receive-taken, send-taken}
+
+pub data Turn (m : Machine) (s : Step) (v : ℕ) : View → Type 0 where
+  stays : Turn m s v (view m v)
+  received : (k : ℕ) → v ≡ number k 1 → view m v .phase ≡ 0 → Turn m s v (receivedView m k)
+  checked : view m v .phase ≡ 1 → v ≡ head m (view m v .actor) → Turn m s v (checkedView m (view m v))
+  sends : view m v .phase ≡ 2 → Turn m s v (phased 3 (view m v))
+  moved : (p : ℕ) → view m v .phase ≡ 3 → Turn m s v (movedView p (view m v))
+  acked : (p k r : ℕ) → s ≡ TakeAck p k r → v ≡ number k r → view m v .phase ≡ 3 → view m v .store ≡ p → Turn m s v (phased 4 (view m v))
+  settled : view m v .phase ≡ 4 → v ≡ head m (view m v .actor) → Turn m s v (phased 5 (view m v))
+
+module _ (m : Machine) (u : Unbroken m) (v : ℕ) (h : v < m .made * 2) where
+  -- one view is written: that one turns, the others stay
+  one : (s : Step) (i : ℕ) (w : View) → i < 32 → (v ≡ i → Turn m s v w) → Turn m s v (getD (set (m .views) i w) v noView)
+  one s i w hi f = go (ℕ-discrete v i)
+    where
+      go : Dec (v ≡ i) → Turn m s v (getD (set (m .views) i w) v noView)
+      go (yes e) = rw (ap (λ (x : ℕ). getD (set (m .views) i w) x noView) e ∙ getD-set-same (m .views) i w noView (omega (arith, u .sized .views))) (f e)
+      go (no n) = rw (getD-set-other (m .views) i v w noView n) stays
+
+  head32 : (a n : ℕ) → Headed m a n → head m a < 32
+  head32 a n g = omega (arith, u .made16, g .made)
+
+  -- a head in the phase n, read as the view v
+  of-head : (P : View → Type 0) (a n : ℕ) → Headed m a n → v ≡ head m a → (view m v .phase ≡ n → v ≡ head m (view m v .actor) → P (view m v)) → P (headView m a)
+  of-head P a n g e f =
+      let x : headView m a ≡ view m v = ap (view m) (sym e) in
+      subst P (sym x) (f (rw e (g .phase)) (rw e (ap (head m) (sym (g .owner)))))
+
+  pub turns : (s : Step) → numberOf m s ≡ 0 → Turn m s v (view (afterOf m s) v)
+  unfolding sent receivedOf preChecked recordSent timedOut recordTaken ackTaken postChecked repairTaken updateSent updateTaken uackTaken expired lost crashed restarted
+  turns (Send from to own word causes) e =
+      let t = send-taken m from to own causes e in
+      let room = t .room in
+      let z = u .sized .views in
+      rw (getD-set-other (set (m .views) (number (m .made) 0) (sentView m from to own word causes)) (number (m .made) 1) v (awaitedView to) noView (λ x. let y : ⊥ = omega arith in y),
+      getD-set-other (m .views) (number (m .made) 0) v (sentView m from to own word causes) noView (λ x. let y : ⊥ = omega arith in y)) stays
+  turns (Receive k) e =
+      let t = receive-taken m k e in
+      one (Receive k) (number k 1) (receivedView m k) (omega (arith, u .made16, t .0)) (λ x. received k x (rw x (t .1)))
+  turns (PreCheck a) e =
+      let g = pre-check-taken m u a e in
+      one (PreCheck a) (head m a) (checkedView m (headView m a)) (head32 a 1 g) (λ x. of-head (λ w. Turn m (PreCheck a) v (checkedView m w)) a 1 g x (λ y i. checked y i))
+  turns (SendRecord a) e =
+      let g = send-record-taken m u a e in
+      one (SendRecord a) (head m a) (phased 3 (headView m a)) (head32 a 2 g) (λ x. of-head (λ w. Turn m (SendRecord a) v (phased 3 w)) a 2 g x (λ y i. sends y))
+  turns (Timeout a p) e =
+      let g = timeout-taken m u a p e .0 in
+      one (Timeout a p) (head m a) (movedView p (headView m a)) (head32 a 3 g) (λ x. of-head (λ w. Turn m (Timeout a p) v (movedView p w)) a 3 g x (λ y i. moved p y))
+  turns (TakeRecord p k r) e = stays
+  turns (TakeAck p k r) e =
+      let t = take-ack-taken m p k r e in
+      one (TakeAck p k r) (number k r) (ackedView m p (number k r)) (omega (arith, u .made16, t .0 .key, t .0 .role)) (λ x. go x (accepts m p (number k r)) refl)
+    where
+      go : v ≡ number k r → (b : Bool) → accepts m p (number k r) ≡ b → Turn m (TakeAck p k r) v (pick (accepts m p (number k r)) (phased 4 (view m (number k r))) (view m (number k r)))
+      go x true c =
+          let a = and-true (isHead m (number k r) && eqb (view m (number k r) .phase) 3) (eqb (view m (number k r) .store) p) c in
+          let b = and-true (isHead m (number k r)) (eqb (view m (number k r) .phase) 3) (a .0) in
+          let f = eqb-true (view m (number k r) .phase) 3 (b .1) in
+          let g = eqb-true (view m (number k r) .store) p (a .1) in
+          rw c (subst (λ (y : ℕ). Turn m (TakeAck p k r) v (phased 4 (view m y))) x (acked p k r refl x (rw x f) (rw x g)))
+      go x false c = rw c (subst (λ (y : ℕ). Turn m (TakeAck p k r) v (view m y)) x stays)
+  turns (PostCheck a) e =
+      let g = post-check-taken m u a e in
+      one (PostCheck a) (head m a) (phased 5 (headView m a)) (head32 a 4 g) (λ x. of-head (λ w. Turn m (PostCheck a) v (phased 5 w)) a 4 g x (λ y i. settled y i))
+  turns (TakeRepair k r) e = stays
+  turns (SendUpdate k r) e = stays
+  turns (TakeUpdate p k r) e = stays
+  turns (TakeUack p k r) e = stays
+  turns (Expire k r) e = stays
+  turns (Lose what p k r) e = go (copies m what p (number k r) - 1) (eqb what 0) (eqb what 1) (eqb what 2)
+    where
+      go : (n : ℕ) (a b c : Bool)
+          → Turn m (Lose what p k r) v (view (pick a (withRecordCopies m p (number k r) n) (pick b (withAckCopies m p (number k r) n) (pick c (withUpdateCopies m p (number k r) n) (withUackCopies m p (number k r) n)))) v)
+      go n true b c = stays
+      go n false true c = stays
+      go n false false true = stays
+      go n false false false = stays
+  turns (Crash p) e = stays
+  turns (Restart p) e = stays

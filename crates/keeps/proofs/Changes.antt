@@ -1,0 +1,319 @@
+-- A change leaves every slot as it must be; each taken step is a chain of changes; so what every change keeps, every step keeps.
+-- The kinds are walked here, once. Assumes nothing.
+use Prim.Native.Nat.{ℕ, zero, suc, _+_, _*_, _-_, _≤_, _<_}
+use mathlib.Core.Path.{_≡_, refl, sym, ap, subst, _∙_}
+use mathlib.Core.Logic.{_≢_}
+use mathlib.Core.Bool.{Bool, true, false, _&&_}
+use mathlib.Core.List.{List}
+use native.Mathlib.Omega.{arith}
+use lib.ListN.{length, getD, set}
+use lib.Seq.{getD-set-same, set-getD}
+use lib.Dec.{eqb}
+use borrow.Author.Tests.{eqb-true, eqb-false}
+use Rattle.machine.specs.Words.{pick}
+use Rattle.machine.specs.Slots.{number, place, noView, noEntry, noContents, statusNumber, view, queue, repair, entry, recordCopies, ackCopies, updateCopies, uackCopies, contents, viewlink}
+use Rattle.machine.specs.Writes.{withUpAt, withView, withEntry, withEntries, withViewlink, withRecordCopies, withAckCopies, withUpdateCopies, withUackCopies}
+use Rattle.machine.specs.Broken.{brokenOf}
+use Rattle.machine.specs.EverySlot.{EverySlot, ViewlinkSlot}
+use Rattle.machine.specs.declared.Machine.{Machine}
+use Rattle.machine.specs.declared.View.{View}
+use Rattle.machine.specs.declared.Entry.{Entry}
+use Rattle.machine.specs.declared.Contents.{Contents}
+use Rattle.machine.specs.declared.Status.{Status}
+use Rattle.machine.specs.declared.Status.the-variants.{Nothing, ToSend, Waiting, Done}
+use Rattle.machine.proofs.Laws.{slots}
+use Rattle.machine.proofs.Laws.Tests.{and-left, and-right}
+use Rattle.machine.proofs.Laws.Says.{eq-says, zero-splits, not-says, and-says}
+use Rattle.rules.specs.Rule.{head, headView, phased, more}
+use Rattle.rules.specs.SendUpdate.{inStatus, updateSent}
+use Rattle.rules.specs.TakeUack.{finishedEntry, uackTaken}
+use Rattle.rules.specs.TakeUpdate.{updateTaken}
+use Rattle.rules.specs.TakeRecord.{writtenContents, writtenViewlink, recordTaken}
+use Rattle.rules.specs.TakeAck.{isHead, accepts, ackedView, ackTaken}
+use Rattle.rules.specs.SendRecord.{recordSent}
+use Rattle.rules.specs.PreCheck.{checkedView, preChecked}
+use Rattle.rules.specs.Timeout.{movedView, timedOut}
+use Rattle.rules.specs.Expire.{expired}
+use Rattle.rules.specs.Lose.{lost}
+use Rattle.rules.specs.Crash.{crashed}
+use Rattle.rules.specs.Restart.{restarted}
+use Rattle.rules.specs.Step.{numberOf, afterOf, stepOf}
+use Rattle.rules.specs.declared.Step.{Step}
+use Rattle.rules.specs.declared.Step.the-variants.{Send, Receive, PreCheck, SendRecord, Timeout, TakeRecord, TakeAck, PostCheck, TakeRepair, SendUpdate, TakeUpdate, TakeUack, Expire, Lose, Crash, Restart}
+use Rattle.keeps.specs.Taken.{HeadIn, ViewOf, PlaceOf, TimeoutTaken, TakeRecordTaken, TakeAckTaken, SendUpdateTaken, TakeUpdateTaken, TakeUackTaken, ExpireTaken, LoseTaken, Taken}
+use Rattle.keeps.specs.Change.{HeadMove, isChecked, isSent, isMoved, isAcked, withFlight, FlightMove, recordComes, recordGoes, ackComes, ackGoes, updateComes, updateGoes, uackComes, uackGoes}
+use Rattle.keeps.specs.Change.{withHeld, LinkMove, isWritten, isUpdated, StatusMove, isWaiting, isExpired, isDone, Change, onUp, onSend, onReceive, onHead, onSettle, onFlight, onHeld, onViewlink, onStatus, onRepair, Changes, nothing, then}
+use Rattle.keeps.proofs.Index.{place-same}
+use Rattle.keeps.proofs.Conditions.{taken-when, waiting}
+use Rattle.keeps.proofs.Writes.{up-write, record-write, ack-write, update-write, uack-write, viewlink-write}
+use Rattle.keeps.proofs.Heads.{head-32, head-from, head-made}
+use Rattle.keeps.proofs.Stores.{pick-case, fewer-copies, more-copies, store-8, key-16, number-32, written-held, holds, linked, fewerOf}
+use Rattle.keeps.proofs.Coordinator.{status-write, take-repair-kept}
+use Rattle.keeps.proofs.Actors.{phase-write, pre-check-kept, timeout-kept, same-view}
+use Rattle.keeps.proofs.PostCheck.{post-check-kept}
+use Rattle.keeps.proofs.Receive.{receive-kept}
+use Rattle.keeps.proofs.Send.{send-kept}
+use Rattle.keeps.proofs.Keeps.{step-case}
+
+-- each change keeps every slot
+head-kept : (m : Machine) → EverySlot m → (a : ℕ) (w : View) → HeadMove m a w → EverySlot (withView m (head m a) w)
+unfolding preChecked timedOut
+head-kept m s a w (isChecked h) = pre-check-kept m s a h
+head-kept m s a w (isSent h) = phase-write m s a (h .actorIn) (h .queued) 3 (omega arith) (omega arith)
+head-kept m s a w (isMoved p t) = timeout-kept m s a p t
+head-kept m s a w (isAcked p h e c) = phase-write m s a (h .actorIn) (h .queued) 4 (omega arith) (omega arith)
+
+module _ (m : Machine) (s : EverySlot m) where
+  place-8 : (p k r : ℕ) → PlaceOf m p k r → p < 8
+  place-8 p k r o = store-8 m s p (o .storeIn)
+
+  view-32 : (p k r : ℕ) → PlaceOf m p k r → number k r < 32
+  view-32 p k r o = number-32 m s k r (o .keyIn) (o .roleIn)
+
+  flight-kept : (records acks updates uacks : List ℕ) → FlightMove m records acks updates uacks → EverySlot (withFlight m records acks updates uacks)
+  flight-kept records acks updates uacks (recordComes p v hs hm e f) =
+      let hp = store-8 m s p hs in
+      let few = s .made16 in
+      record-write m s p v hp (omega arith) (more (recordCopies m p v)) (more-copies (s .recordAt p v hp (omega arith)) hs (omega arith))
+  flight-kept records acks updates uacks (recordGoes p k r o c) =
+      record-write m s p (number k r) (place-8 p k r o) (view-32 p k r o) (recordCopies m p (number k r) - 1) (fewer-copies (s .recordAt p (number k r) (place-8 p k r o) (view-32 p k r o)))
+  flight-kept records acks updates uacks (ackComes p k r o h l) =
+      ack-write m s p (number k r) (place-8 p k r o) (view-32 p k r o) (more (ackCopies m p (number k r)))
+      (more-copies (s .ackAt p (number k r) (place-8 p k r o) (view-32 p k r o)) (o .storeIn) (s .contentsAt p (number k r) (place-8 p k r o) (view-32 p k r o) .ready h))
+  flight-kept records acks updates uacks (ackGoes p k r o c) =
+      ack-write m s p (number k r) (place-8 p k r o) (view-32 p k r o) (ackCopies m p (number k r) - 1) (fewer-copies (s .ackAt p (number k r) (place-8 p k r o) (view-32 p k r o)))
+  flight-kept records acks updates uacks (updateComes p k r o e f) =
+      let n = ap statusNumber e in
+      update-write m s p (number k r) (place-8 p k r o) (view-32 p k r o) (more (updateCopies m p (number k r)))
+      (more-copies (s .updateAt p (number k r) (place-8 p k r o) (view-32 p k r o)) (o .storeIn) (omega arith))
+  flight-kept records acks updates uacks (updateGoes p k r o c) =
+      update-write m s p (number k r) (place-8 p k r o) (view-32 p k r o) (updateCopies m p (number k r) - 1) (fewer-copies (s .updateAt p (number k r) (place-8 p k r o) (view-32 p k r o)))
+  flight-kept records acks updates uacks (uackComes p k r o c l) =
+      uack-write m s p (number k r) (place-8 p k r o) (view-32 p k r o) (more (uackCopies m p (number k r)))
+      (more-copies (s .uackAt p (number k r) (place-8 p k r o) (view-32 p k r o)) (o .storeIn) (s .updateAt p (number k r) (place-8 p k r o) (view-32 p k r o) .atView c))
+  flight-kept records acks updates uacks (uackGoes p k r o c) =
+      uack-write m s p (number k r) (place-8 p k r o) (view-32 p k r o) (uackCopies m p (number k r) - 1) (fewer-copies (s .uackAt p (number k r) (place-8 p k r o) (view-32 p k r o)))
+
+  link-kept : (p k v link : ℕ) → p < m .stores → k < m .made → LinkMove m p k v link → EverySlot (withViewlink m p v link)
+  link-kept p k v link hs hk (isWritten r hr c h) =
+      let hp = store-8 m s p hs in
+      let hv = number-32 m s k r hk hr in
+      viewlink-write m s p (number k r) hp hv (writtenViewlink (viewlink m p (number k r)) (view m (number k r)))
+      (linked m s p k hp hs hk (number k r) hv (omega arith) (s .recordAt p (number k r) hp hv .atView c))
+  link-kept p k v link hs hk (isUpdated r hr c) =
+      let hp = store-8 m s p hs in
+      let hv = number-32 m s k r hk hr in
+      let own = s .entryAt (number k r) hv .ownIn (s .updateAt p (number k r) hp hv .atView c) in
+      viewlink-write m s p (number k (1 - r)) hp (number-32 m s k (1 - r) hk (omega arith)) (entry m (number k r) .own + 1)
+      (record { linkIn = omega arith; atStore = λ h. hs; atView = λ h. omega arith })
+
+  status-kept : (v : ℕ) → v < 32 → (t : Status) → StatusMove m v t → EverySlot (withEntry m v (inStatus t (entry m v)))
+  status-kept v h t (isWaiting e) = let n = ap statusNumber e in status-write m s v h Waiting (omega arith) (omega arith)
+  status-kept v h t (isExpired e) = let n = ap statusNumber e in status-write m s v h ToSend (omega arith) (omega arith)
+  status-kept v h t (isDone p hp e d c) = let n = ap statusNumber e in status-write m s v h Done (omega arith) (omega arith)
+
+pub change-kept : (m n : Machine) → EverySlot m → Change m n → EverySlot n
+change-kept m n s (onUp p b h) = up-write m s p b (store-8 m s p h) (λ k. absurd (omega arith))
+change-kept m n s (onSend from to own word causes c) = send-kept m s from to own word causes c
+change-kept m n s (onReceive k c) = receive-kept m s k c
+change-kept m n s (onHead a w h) = head-kept m s a w h
+change-kept m n s (onSettle a h) = post-check-kept m s a h
+change-kept m n s (onFlight records acks updates uacks f) = flight-kept m s records acks updates uacks f
+change-kept m n s (onHeld p k r o c) =
+    let hp = store-8 m s p (o .storeIn) in
+    holds m s p k hp (o .storeIn) (o .keyIn) r (o .roleIn) (s .recordAt p (number k r) hp (number-32 m s k r (o .keyIn) (o .roleIn)) .atView c)
+change-kept m n s (onViewlink p k v link hs hk l) = link-kept m s p k v link hs hk l
+change-kept m n s (onStatus k r t o c) = status-kept m s (number k r) (number-32 m s k r (o .keyIn) (o .roleIn)) t c
+change-kept m n s (onRepair k r c) = take-repair-kept m s k r c
+
+-- one change, and one more
+one : (m n : Machine) → Change m n → Changes m n
+one m n c = then m n nothing c
+
+-- a choice of two values for a slot: the change, or the slot as it is
+choose : {A : Type 0} (m : Machine) (write : A → Machine) (c : Bool) (x y : A) → (c ≡ true → Changes m (write x)) → write y ≡ m → Changes m (write (pick c x y))
+choose m write c x y f e = pick-case (λ z. Changes m (write z)) c x y f (λ b. subst (Changes m) (sym e) nothing)
+
+module _ (m : Machine) (s : EverySlot m) where
+  send-record-changes : (a : ℕ) → HeadIn 2 m a → Changes m (recordSent m a)
+  unfolding recordSent
+  send-record-changes a h =
+      let ha = h .actorIn in
+      let some = h .queued in
+      let v = head m a in
+      let hv = head-32 m s a ha some in
+      let hs = s .viewAt v hv .storeIn (head-from m s a ha some) in
+      let long = s .sized .views in
+      let w = phased 3 (headView m a) in
+      let m₁ = withView m v w in
+      let now : view m₁ v ≡ w = getD-set-same (m .views) v w noView (omega arith) in
+      then m₁ _ (one m m₁ (onHead a w (isSent h)))
+      (onFlight _ (m .acks) (m .updates) (m .uacks) (recordComes (headView m a .store) v hs (head-made m s a ha some) (ap (λ (x : View). x .phase) now) (ap (λ (x : View). x .store) now)))
+
+  take-record-changes : (p k r : ℕ) → TakeRecordTaken m p k r → Changes m (recordTaken m p k r)
+  unfolding recordTaken
+  take-record-changes p k r c =
+      let o = c .place in
+      let hs = o .storeIn in
+      let hk = o .keyIn in
+      let hr = o .roleIn in
+      let v = number k r in
+      let hp = store-8 m s p hs in
+      let hv = number-32 m s k r hk hr in
+      let m₁ = withHeld m p k r in
+      let l = writtenViewlink (viewlink m p v) (view m v) in
+      let m₂ = withViewlink m₁ p v l in
+      let m₃ = withAckCopies m₂ p v (more (ackCopies m p v)) in
+      let o₃ : PlaceOf m₃ p k r = record { storeIn = hs; keyIn = hk; roleIn = hr } in
+      let o₂ : PlaceOf m₂ p k r = record { storeIn = hs; keyIn = hk; roleIn = hr } in
+      let w = writtenContents (contents m p v) (view m v) in
+      let there : contents m₁ p v .held ≡ true =
+          ap (λ (x : Contents). x .held) (place-same (m .contents) p v w noContents (s .sized .contents) hp hv) ∙ written-held m s p k hp hs hk (contents m p v) (view m v) in
+      let link : 1 ≤ viewlink m₂ p v =
+          subst (λ (n : ℕ). 1 ≤ n) (sym (place-same (m .viewlinks) p v l 0 (s .sized .viewlinks) hp hv))
+          (pick-case (λ (n : ℕ). 1 ≤ n) (eqb (viewlink m p v) 0) (view m v .viewlink + 1) (viewlink m p v) (λ e. omega arith) (λ e. zero-splits (viewlink m p v) .fails e)) in
+      then m₃ _
+      (then m₂ m₃
+      (then m₁ m₂ (one m m₁ (onHeld p k r o (c .copy))) (onViewlink p k v l hs hk (isWritten r hr (c .copy) there)))
+      (onFlight (m .records) _ (m .updates) (m .uacks) (ackComes p k r o₂ there link)))
+      (onFlight _ (m₃ .acks) (m .updates) (m .uacks) (recordGoes p k r o₃ (c .copy)))
+
+  take-ack-changes : (p k r : ℕ) → TakeAckTaken m p k r → Changes m (ackTaken m p k r)
+  unfolding ackTaken
+  take-ack-changes p k r c =
+      let o = c .place in
+      let v = number k r in
+      let hk = o .keyIn in
+      let hr = o .roleIn in
+      let hv = number-32 m s k r hk hr in
+      let m₁ = withView m v (ackedView m p v) in
+      let o₁ : PlaceOf m₁ p k r = record { storeIn = o .storeIn; keyIn = hk; roleIn = hr } in
+      let a = view m v .actor in
+      let accepted : accepts m p v ≡ true → Changes m (withView m v (phased 4 (view m v))) =
+          λ e.
+            let i = and-left (isHead m v && eqb (view m v .phase) 3) (eqb (view m v .store) p) e in
+            let d = and-says (not-says (zero-splits (queue m a .len))) (eq-says (head m a) v) .tells (and-left (isHead m v) (eqb (view m v .phase) 3) i) in
+            let here = d .1 in
+            let h : HeadIn 3 m a = record {
+              actorIn = s .viewAt v hv .actorIn (omega arith);
+              queued = d .0;
+              headPhase = ap (λ (n : ℕ). view m n .phase) here ∙ eqb-true (view m v .phase) 3 (and-right (isHead m v) (eqb (view m v .phase) 3) i);
+            } in
+            let at = ap (λ (n : ℕ). view m n .store) here ∙ eqb-true (view m v .store) p (and-right (isHead m v && eqb (view m v .phase) 3) (eqb (view m v .store) p) e) in
+            subst (λ (n : ℕ). Changes m (withView m n (phased 4 (view m n)))) here
+            (one m _ (onHead a (phased 4 (headView m a)) (isAcked p h at (subst (λ (n : ℕ). 1 ≤ ackCopies m p n) (sym here) (c .copy))))) in
+      then m₁ _ (choose m (withView m v) (accepts m p v) (phased 4 (view m v)) (view m v) accepted (same-view m v))
+      (onFlight (m .records) _ (m .updates) (m .uacks) (ackGoes p k r o₁ (c .copy)))
+
+  send-update-changes : (k r : ℕ) → SendUpdateTaken m k r → Changes m (updateSent m k r)
+  unfolding updateSent
+  send-update-changes k r c =
+      let v = number k r in
+      let hk = c .view .keyIn in
+      let hr = c .view .roleIn in
+      let hv = number-32 m s k r hk hr in
+      let p = entry m v .destination in
+      let n = ap statusNumber (c .due) in
+      let hs = s .entryAt v hv .destinationIn (omega arith) in
+      let e = inStatus Waiting (entry m v) in
+      let m₁ = withEntry m v e in
+      let long = s .sized .entries in
+      let now : entry m₁ v ≡ e = getD-set-same (m .entries) v e noEntry (omega arith) in
+      let o₁ : PlaceOf m₁ p k r = record { storeIn = hs; keyIn = hk; roleIn = hr } in
+      then m₁ _ (one m m₁ (onStatus k r Waiting (c .view) (isWaiting (c .due))))
+      (onFlight (m .records) (m .acks) _ (m .uacks) (updateComes p k r o₁ (ap (λ (x : Entry). x .status) now) (ap (λ (x : Entry). x .destination) now)))
+
+  take-update-changes : (p k r : ℕ) → TakeUpdateTaken m p k r → Changes m (updateTaken m p k r)
+  unfolding updateTaken
+  take-update-changes p k r c =
+      let o = c .place in
+      let hs = o .storeIn in
+      let hk = o .keyIn in
+      let hr = o .roleIn in
+      let v = number k r in
+      let u = number k (1 - r) in
+      let hp = store-8 m s p hs in
+      let hu = number-32 m s k (1 - r) hk (omega arith) in
+      let m₁ = withViewlink m p u (entry m v .own + 1) in
+      let m₂ = withUackCopies m₁ p v (more (uackCopies m p v)) in
+      let o₁ : PlaceOf m₁ p k r = record { storeIn = hs; keyIn = hk; roleIn = hr } in
+      let o₂ : PlaceOf m₂ p k r = record { storeIn = hs; keyIn = hk; roleIn = hr } in
+      let link : viewlink m₁ p u ≡ entry m v .own + 1 = place-same (m .viewlinks) p u (entry m v .own + 1) 0 (s .sized .viewlinks) hp hu in
+      then m₂ _
+      (then m₁ m₂ (one m m₁ (onViewlink p k u (entry m v .own + 1) hs hk (isUpdated r hr (c .copy))))
+      (onFlight (m .records) (m .acks) (m .updates) _ (uackComes p k r o₁ (c .copy) link)))
+      (onFlight (m .records) (m .acks) _ (m₂ .uacks) (updateGoes p k r o₂ (c .copy)))
+
+  take-uack-changes : (p k r : ℕ) → TakeUackTaken m p k r → Changes m (uackTaken m p k r)
+  unfolding uackTaken
+  take-uack-changes p k r c =
+      let o = c .place in
+      let v = number k r in
+      let e = finishedEntry p (entry m v) in
+      let m₁ = withEntry m v e in
+      let o₁ : PlaceOf m₁ p k r = record { storeIn = o .storeIn; keyIn = o .keyIn; roleIn = o .roleIn } in
+      let waits = eqb (statusNumber (entry m v .status)) 2 in
+      let answers = eqb (entry m v .destination) p in
+      then m₁ _
+      (choose m (withEntry m v) (waits && answers) (inStatus Done (entry m v)) (entry m v)
+      (λ b. one m _ (onStatus k r Done (record { keyIn = o .keyIn; roleIn = o .roleIn })
+      (isDone p (o .storeIn) (waiting (entry m v .status) (eqb-true (statusNumber (entry m v .status)) 2 (and-left waits answers b))) (eqb-true (entry m v .destination) p (and-right waits answers b)) (c .copy))))
+      (ap (withEntries m) (set-getD (m .entries) v noEntry)))
+      (onFlight (m .records) (m .acks) (m .updates) _ (uackGoes p k r o₁ (c .copy)))
+
+  lose-changes : (what p k r : ℕ) → LoseTaken m what p k r → Changes m (lost m what p k r)
+  unfolding lost
+  lose-changes what p k r c = go (eqb what 0) (eqb what 1) (eqb what 2) (c .copy)
+    where
+      v : ℕ
+      v = number k r
+
+      o : PlaceOf m p k r
+      o = c .place
+
+      go : (a b d : Bool)
+          → 1 ≤ pick a (recordCopies m p (number k r)) (pick b (ackCopies m p (number k r)) (pick d (updateCopies m p (number k r)) (uackCopies m p (number k r))))
+          → Changes m (fewerOf m s p (number k r) (store-8 m s p (c .place .storeIn)) (number-32 m s k r (c .place .keyIn) (c .place .roleIn)) a b d)
+      go true b d h = one m _ (onFlight _ (m .acks) (m .updates) (m .uacks) (recordGoes p k r o h))
+      go false true d h = one m _ (onFlight (m .records) _ (m .updates) (m .uacks) (ackGoes p k r o h))
+      go false false true h = one m _ (onFlight (m .records) (m .acks) _ (m .uacks) (updateGoes p k r o h))
+      go false false false h = one m _ (onFlight (m .records) (m .acks) (m .updates) _ (uackGoes p k r o h))
+
+-- the walk through the kinds
+pub taken-changes : (m : Machine) (s : Step) → EverySlot m → Taken m s → Changes m (afterOf m s)
+unfolding preChecked timedOut expired crashed restarted
+taken-changes m (Send from to own word causes) e c = one m _ (onSend from to own word causes c)
+taken-changes m (Receive k) e c = one m _ (onReceive k c)
+taken-changes m (PreCheck a) e c = one m _ (onHead a (checkedView m (headView m a)) (isChecked c))
+taken-changes m (SendRecord a) e c = send-record-changes m e a c
+taken-changes m (Timeout a p) e c = one m _ (onHead a (movedView p (headView m a)) (isMoved p c))
+taken-changes m (TakeRecord p k r) e c = take-record-changes m e p k r c
+taken-changes m (TakeAck p k r) e c = take-ack-changes m e p k r c
+taken-changes m (PostCheck a) e c = one m _ (onSettle a c)
+taken-changes m (TakeRepair k r) e c = one m _ (onRepair k r c)
+taken-changes m (SendUpdate k r) e c = send-update-changes m e k r c
+taken-changes m (TakeUpdate p k r) e c = take-update-changes m e p k r c
+taken-changes m (TakeUack p k r) e c = take-uack-changes m e p k r c
+taken-changes m (Expire k r) e c = one m _ (onStatus k r ToSend (c .view) (isExpired (c .waits)))
+taken-changes m (Lose what p k r) e c = lose-changes m e what p k r c
+taken-changes m (Crash p) e c = one m _ (onUp p false (c .storeIn))
+taken-changes m (Restart p) e c = one m _ (onUp p true (c .storeIn))
+
+-- a relation that holds of every change, and of nothing and of one after the other, holds of every step
+module _ (R : Machine → Machine → Type 0) (still : (m : Machine) → R m m) (after : (m n o : Machine) → R m n → R n o → R m o)
+    (each : (m n : Machine) → EverySlot m → Change m n → R m n) where
+  chain : (m n : Machine) → EverySlot m → Changes m n → EverySlot n × R m n
+  chain m n s nothing = (s, still m)
+  chain m n s (then k o c d) =
+      let p = chain m k s c in
+      (change-kept k o (p .0) d, after m k o (p .1) (each k o (p .0) d))
+
+  pub taken-related : (m : Machine) (s : Step) → brokenOf m ≡ false → numberOf m s ≡ 0 → R m (afterOf m s)
+  taken-related m s e z = let u = slots m e in chain m (afterOf m s) u (taken-changes m s u (taken-when m s z)) .1
+
+  pub step-related : (m : Machine) (s : Step) → R m (stepOf m s .machine)
+  step-related m s = step-case m s (λ x. R m (x .machine)) (λ e. still m) (λ e z. taken-related m s e z) (λ e n. still m)
+
+-- a property that every change keeps, every step keeps
+pub step-has : (P : Machine → Type 0) → ((m n : Machine) → EverySlot m → Change m n → P m → P n) → (m : Machine) (s : Step) → P m → P (stepOf m s .machine)
+step-has P keep m s = step-related (λ a b. P a → P b) (λ a x. x) (λ a b c f g x. g (f x)) keep m s

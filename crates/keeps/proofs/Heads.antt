@@ -1,0 +1,140 @@
+-- The head of a queue: it is a view of this actor in a phase from 1 to 4, and stands nowhere else. It moves on within its phases,
+-- or leaves. Assumes nothing.
+use Prim.Native.Nat.{ℕ, zero, suc, _+_, _*_, _-_, _/_, _%_, _≤_, _<_}
+use mathlib.Core.Path.{_≡_, refl, sym, ap, subst, _∙_}
+use mathlib.Core.Logic.{_≢_}
+use mathlib.Core.Bool.{Bool, true, false}
+use mathlib.Core.List.{List, [], _∷_, _++_}
+use native.Mathlib.Omega.{arith}
+use native.Mathlib.Decide.{ℕ-discrete, decLt}
+use lib.ListN.{length, getD, set, take, drop, length-set, length-take, length-append, length-drop, List·getD-append}
+use lib.Seq.{getD-drop, getD-append-seam, getD-set-same, getD-set-other, take-append-le}
+use lib.Dec.{eqb}
+use Rattle.machine.specs.Words.{times, one}
+use Rattle.machine.specs.Slots.{number, noView, noQueue, statusNumber, standing, view, queue, message, repair, entry, recordCopies, ackCopies, contents, causeLinks}
+use Rattle.machine.specs.Writes.{withView, withQueue}
+use Rattle.machine.specs.EverySlot.{ViewSlot, QueueSlot, RepairSlot, EntrySlot, CopySlot, ContentsSlot, LinksSlot, EverySlot}
+use Rattle.machine.specs.declared.Machine.{Machine}
+use Rattle.machine.specs.declared.View.{View}
+use Rattle.machine.specs.declared.Queue.{Queue}
+use Rattle.machine.proofs.Laws.Counting.{times-two, times-none}
+use Rattle.machine.proofs.Laws.Room.{actors8, view-32, made-view, standing-long, standing-at}
+use Rattle.rules.specs.Rule.{head, headView}
+use Rattle.rules.specs.PostCheck.{left}
+use Rattle.keeps.proofs.Index.{at-index}
+use Rattle.keeps.proofs.Jobs.{Job, job-at, jobsOf, jobs-kept, read-same, read-view, actor-same, one-job, views-long, message-same}
+
+-- a view in phases 1 to 4 goes on, to phase 2 or further: what it says stays, and its links unless it is checked first
+module _ (m : Machine) (s : EverySlot m) (v : ℕ) (h : v < 32) (old : view m v .phase ≤ 4) (w : View) where
+  pub moved-job : ViewSlot (m .stores) (m .actors) (m .made) (view m (v - 1) .actor) v w → 2 ≤ w .phase
+      → w .actor ≡ view m v .actor → w .causes ≡ view m v .causes → w .word ≡ view m v .word → (2 ≤ view m v .phase → w .links ≡ view m v .links)
+      → Job m (m .made) (view m (v - 1) .actor) v w
+  moved-job x ready actor causes word links =
+      let o = job-at m s v h in
+      let settled : view m v .phase ≡ 5 → ⊥ = λ e. omega arith in
+      record {
+        viewSlot = x;
+        repairSlot = (let r = o .repairSlot in record {
+          settled = λ f. absurd (settled (r .settled f));
+          destinationIn = r .destinationIn;
+          ownIn = r .ownIn;
+          destinationBlank = r .destinationBlank;
+          ownBlank = r .ownBlank;
+        });
+        entrySlot = (let r = o .entrySlot in record {
+          settled = λ f. absurd (settled (r .settled f));
+          destinationIn = r .destinationIn;
+          ownIn = r .ownIn;
+          destinationBlank = r .destinationBlank;
+          ownBlank = r .ownBlank;
+        });
+        recordSlot = λ p hp. let r = o .recordSlot p hp in record { copies15 = r .copies15; atStore = r .atStore; atView = λ b. ready };
+        ackSlot = λ p hp. let r = o .ackSlot p hp in record { copies15 = r .copies15; atStore = r .atStore; atView = λ b. ready };
+        contentsSlot = λ p hp. let r = o .contentsSlot p hp in record {
+          atStore = r .atStore;
+          ready = λ e. ready;
+          sameActor = λ e. r .sameActor e ∙ sym actor;
+          sameCauses = λ e. r .sameCauses e ∙ sym causes;
+          sameWord = λ e. r .sameWord e ∙ sym word;
+          actorBlank = r .actorBlank;
+          causesBlank = r .causesBlank;
+          wordBlank = r .wordBlank;
+        };
+        linksSlot = λ p k hp hk e. let r = o .linksSlot p k hp hk e in record {
+          long = r .long;
+          sameLinks = λ j b f. r .sameLinks j b f ∙ ap (λ (l : List ℕ). getD l j 0) (sym (links (o .contentsSlot p hp .ready f)));
+          linksBlank = r .linksBlank;
+        };
+      }
+
+module _ (m : Machine) (s : EverySlot m) (a : ℕ) (ha : a < m .actors) (some : 1 ≤ queue m a .len) where
+  pub actor-8 : a < 8
+  actor-8 = let t = actors8 m s in omega arith
+
+  pub head-own : headView m a .actor ≡ a
+  head-own = s .queueAt a actor-8 .standsOwn 0 some
+
+  pub head-from : 1 ≤ headView m a .phase
+  head-from = s .queueAt a actor-8 .standsFrom 0 some
+
+  pub head-to : headView m a .phase ≤ 4
+  head-to = s .queueAt a actor-8 .standsTo 0 some
+
+  pub head-32 : head m a < 32
+  head-32 = view-32 m s (head m a) head-from
+
+  pub head-made : head m a < m .made * 2
+  head-made = made-view m s (head m a) head-from
+
+  head-once : times (head m a) (standing (queue m a)) ≡ 1
+  head-once = subst (λ (b : ℕ). times (head m a) (standing (queue m b)) ≡ 1) head-own (s .onceAt (head m a) head-32 head-from head-to)
+
+  -- the head stands in its own queue only
+  pub head-elsewhere : (b i : ℕ) → b < 8 → i < queue m b .len → getD (queue m b .views) i 0 ≡ head m a → b ≡ a
+  head-elsewhere b i hb hi e = sym (s .queueAt b hb .standsOwn i hi) ∙ ap (λ (n : ℕ). view m n .actor) e ∙ head-own
+
+  -- .. and not behind itself
+  pub head-behind : (i : ℕ) → i < queue m a .len → 1 ≤ i → getD (queue m a .views) i 0 ≢ head m a
+  head-behind i hi pos e =
+      let long = standing-long m s a actor-8 in
+      let r = times-two (head m a) (standing (queue m a)) 0 i pos (omega arith) (standing-at m s a actor-8 0 (omega arith)) (standing-at m s a actor-8 i (omega arith) ∙ e) in
+      let o = head-once in
+      absurd (omega arith)
+
+  pub behind-elsewhere : (b i : ℕ) → b < 8 → i < queue m b .len → 1 ≤ i → getD (queue m b .views) i 0 ≢ head m a
+  behind-elsewhere b i hb hi pos e =
+      let q = head-elsewhere b i hb hi e in
+      head-behind i (subst (λ (n : ℕ). i < queue m n .len) q hi) pos (subst (λ (n : ℕ). getD (queue m n .views) i 0 ≡ head m a) q e)
+
+  -- the head moves on within phases 1 to 4
+  module _ (w : View) (actor : w .actor ≡ headView m a .actor) (from : 1 ≤ w .phase) (to : w .phase ≤ 4) where
+    stays : (b : ℕ) → b < 8 → QueueSlot (m .actors) (set (m .views) (head m a) w) b (queue m b)
+    stays b hb =
+        let q = s .queueAt b hb in
+        let at = read-view m s (head m a) head-32 w actor in
+        record {
+          long = q .long;
+          len16 = q .len16;
+          lenBlank = q .lenBlank;
+          standsOwn = λ i hi. actor-same m s (head m a) head-32 w actor (getD (queue m b .views) i 0) ∙ q .standsOwn i hi;
+          standsFrom = λ i hi. at (λ n x. 1 ≤ x .phase) (getD (queue m b .views) i 0) from (λ n. q .standsFrom i hi);
+          standsTo = λ i hi. at (λ n x. x .phase ≤ 4) (getD (queue m b .views) i 0) to (λ n. q .standsTo i hi);
+          behind = λ i hi pos.
+              at (λ n x. n ≡ getD (queue m b .views) i 0 → x .phase ≡ 1) (getD (queue m b .views) i 0)
+              (λ e. absurd (behind-elsewhere b i hb hi pos (sym e))) (λ n e. q .behind i hi pos) refl;
+          placeBlank = q .placeBlank;
+        }
+
+    once : (u : ℕ) → u < 32 → 1 ≤ getD (set (m .views) (head m a) w) u noView .phase → getD (set (m .views) (head m a) w) u noView .phase ≤ 4
+        → times u (standing (queue m (getD (set (m .views) (head m a) w) u noView .actor))) ≡ 1
+    once u hu =
+        read-view m s (head m a) head-32 w actor (λ n x. n < 32 → 1 ≤ x .phase → x .phase ≤ 4 → times n (standing (queue m (x .actor))) ≡ 1) u
+        (λ b c d. subst (λ (n : ℕ). times (head m a) (standing (queue m n)) ≡ 1) (sym (actor ∙ head-own)) head-once)
+        (λ n. s .onceAt u) hu
+
+    pub head-write : Job m (m .made) (view m (head m a - 1) .actor) (head m a) w → EverySlot (withView m (head m a) w)
+    head-write j =
+        jobs-kept m s (m .made) (set (m .views) (head m a) w) (m .queues) (m .messages)
+        (views-long m s (head m a) head-32 w actor) (s .sized .queues) (s .sized .messages) (s .made16) (omega arith)
+        (one-job m s (head m a) head-32 w actor j) once stays
+        (message-same m s (head m a) head-32 w actor head-from from)

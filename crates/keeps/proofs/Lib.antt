@@ -1,0 +1,17 @@
+pub mod Conditions
+pub mod Index
+pub mod Writes
+pub mod Jobs
+pub mod Heads
+pub mod Stores
+pub mod Coordinator
+pub mod Actors
+pub mod Queues
+pub mod PostCheck
+pub mod Joins
+pub mod Receive
+pub mod Send
+pub mod Keeps
+pub mod Changes
+pub mod Onward
+pub mod Laws

@@ -1,0 +1,5 @@
+pub mod Taken
+pub mod Keeps
+pub mod Change
+pub mod Onward
+pub mod Laws

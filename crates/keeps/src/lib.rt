@@ -1,0 +1,1 @@
+// The laws of the sixteen rules: definitions and proofs only, no function.
