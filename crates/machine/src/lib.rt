@@ -2,6 +2,16 @@
 //
 // A view's number is key * 2 + role; a place is store * 32 + view's number.
 
+mod broken;
+mod flight;
+mod fresh;
+mod held;
+mod queues;
+mod views;
+
+ghost use mathlib.Core.Path.{_≡_};
+ghost use Rattle.machine.specs.Slots.{statusNumber};
+
 // A view's record at its actor. In phase 0 only the actor is set.
 pub struct View {
     pub actor: u8,
@@ -54,6 +64,18 @@ pub enum Status {
     ToSend,
     Waiting,
     Done,
+}
+
+// 0 nothing, 1 to-send, 2 waiting, 3 done.
+pub fn status_number(s: Status) -> u8
+    ensures { λ r. ⌜ r ≡ statusNumber s ⌝ }
+{
+    match s {
+        Status::Nothing => 0,
+        Status::ToSend => 1,
+        Status::Waiting => 2,
+        Status::Done => 3,
+    }
 }
 
 // The coordinator's state for a view.

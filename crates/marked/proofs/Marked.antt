@@ -22,9 +22,9 @@ use Rattle.rules.specs.Crash.{crashNo, crashed}
 use Rattle.rules.specs.Restart.{restartNo, restarted}
 use Rattle.rules.specs.Step.{ruleOf, stepOf}
 use Rattle.runs.specs.Drain.{lowest, jobStep, entryStep, turnOf, course, drainOf}
-use Rattle.walk.specs.Walk.{found, hop, each, visitOf, walkedFrom, walkOf}
+use Rattle.walk.specs.Walk.{foundOf, receiptOf, hopOf, each, visitOf, walkedFrom, walkOf}
 use Rattle.marked.specs.Marked.{same, holds, holdAll, concludes, goes, rowHolds, tableHolds, Claim}
 
 pub marked-runs : Claim
-unfolding allFrom table times allBelow legalActor legalActors legal freshWith emptyMachine setupOf slotsFine setupFine rowsFine upFine linksFine viewFine queueFine messageFine repairFine entryFine recordsFine updatesFine contentsFine sameLinks heldLinksFine viewlinksFine jobsFine placesFine wholeOf brokenOf closedOf causesKnown sendNo sent receiveNo receivedOf preCheckNo preChecked sendRecordNo recordSent timeoutNo timedOut takeRecordNo recordTaken takeAckNo ackTaken postCheckNo postChecked takeRepairNo repairTaken sendUpdateNo updateSent takeUpdateNo updateTaken takeUackNo uackTaken expireNo expired loseNo lost crashNo crashed restartNo restarted ruleOf stepOf lowest jobStep entryStep turnOf course drainOf found hop each visitOf walkedFrom walkOf same holds holdAll concludes goes rowHolds tableHolds
+unfolding allFrom table times allBelow legalActor legalActors legal freshWith emptyMachine setupOf slotsFine setupFine rowsFine upFine linksFine viewFine queueFine messageFine repairFine entryFine recordsFine updatesFine contentsFine sameLinks heldLinksFine viewlinksFine jobsFine placesFine wholeOf brokenOf closedOf causesKnown sendNo sent receiveNo receivedOf preCheckNo preChecked sendRecordNo recordSent timeoutNo timedOut takeRecordNo recordTaken takeAckNo ackTaken postCheckNo postChecked takeRepairNo repairTaken sendUpdateNo updateSent takeUpdateNo updateTaken takeUackNo uackTaken expireNo expired loseNo lost crashNo crashed restartNo restarted ruleOf stepOf lowest jobStep entryStep turnOf course drainOf foundOf receiptOf hopOf each visitOf walkedFrom walkOf same holds holdAll concludes goes rowHolds tableHolds
 marked-runs = refl

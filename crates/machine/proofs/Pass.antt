@@ -1,0 +1,71 @@
+-- A loop that tests the places of an array, or the numbers below n, and leaves at the first that fails, computes `all p l`, or `allBelow n p`.
+-- The invariant says what is left of the list, or what was passed. Assumes nothing.
+use Prim.Native.Nat.{ℕ, zero, suc, _+_, _≤_, _<_}
+use mathlib.Core.Path.{_≡_, refl, sym, ap, _∙_}
+use mathlib.Core.Bool.{Bool, true, false, _&&_}
+use mathlib.Core.List.{List}
+use native.Mathlib.Numerals.{add-one}
+use native.Mathlib.Omega.{arith}
+use native.Mathlib.Nat.{le-antisymm}
+use native.Mathlib.Decide.{decLt}
+use lib.ListN.{length, drop, getD, drop-of-length-le}
+use lib.Seq.{drop-cons}
+use Rattle.machine.specs.Words.{allFrom, all, allBelow}
+
+-- i places of l, which has n, are passed: the test of the rest gives the test of all
+pub record Passed {A : Type 0} (d : A) (p : ℕ → A → Bool) (l : List A) (n i : ℕ) : Type 0 where
+  pub low : i ≤ n
+  pub long : length l ≡ n
+  pub same : allFrom p i (drop i l) ≡ all p l
+
+pub pass-start : {A : Type 0} (d : A) (p : ℕ → A → Bool) (l : List A) (n : ℕ) → length l ≡ n → Passed d p l n 0
+pass-start d p l n e = record { low = omega arith; long = e; same = refl }
+
+-- the test of the rest is the test of its first place and of what follows
+first : {A : Type 0} {d : A} {p : ℕ → A → Bool} {l : List A} {n i : ℕ} → Passed d p l n i → i < n → (t : Bool) → p i (getD l i d) ≡ t → (t && allFrom p (suc i) (drop (suc i) l)) ≡ all p l
+unfolding allFrom
+first {A} {d} {p} {l} {n} {i} h b t e =
+    let j : i < length l = omega (arith, h .long) in
+    sym (ap (allFrom p i) (drop-cons l i d j) ∙ ap (λ (t : Bool). t && allFrom p (suc i) (drop (suc i) l)) e) ∙ h .same
+
+pub pass-step : {A : Type 0} {d : A} {p : ℕ → A → Bool} {l : List A} {n i : ℕ} → Passed d p l n i → i < n → p i (getD l i d) ≡ true → Passed d p l n (i + 1)
+pass-step h b e = record { low = omega arith; long = h .long; same = rw add-one (first h b true e) }
+
+pub pass-stop : {A : Type 0} {d : A} {p : ℕ → A → Bool} {l : List A} {n i : ℕ} → Passed d p l n i → i < n → p i (getD l i d) ≡ false → false ≡ all p l
+pass-stop h b e = first h b false e
+
+pub pass-end : {A : Type 0} {d : A} {p : ℕ → A → Bool} {l : List A} {n i : ℕ} → Passed d p l n i → n ≤ i → true ≡ all p l
+unfolding allFrom
+pass-end {A} {d} {p} {l} {n} {i} h b =
+    let j : length l ≤ i = omega (arith, h .long) in
+    sym (ap (allFrom p i) (drop-of-length-le l j)) ∙ h .same
+
+-- p holds of the i numbers that are passed
+pub record Below (n : ℕ) (p : ℕ → Bool) (i : ℕ) : Type 0 where
+  pub low : i ≤ n
+  pub held : allBelow i p ≡ true
+
+pub below-start : (n : ℕ) (p : ℕ → Bool) → Below n p 0
+unfolding allBelow
+below-start n p = record { low = omega arith; held = refl }
+
+pub below-step : {n : ℕ} {p : ℕ → Bool} {i : ℕ} → Below n p i → i < n → p i ≡ true → Below n p (i + 1)
+unfolding allBelow
+below-step h b e = record { low = omega arith; held = rw add-one (simp (h .held, e)) }
+
+pub below-end : {n : ℕ} {p : ℕ → Bool} {i : ℕ} → Below n p i → n ≤ i → true ≡ allBelow n p
+below-end {n} {p} {i} h b = sym (h .held) ∙ ap (λ (k : ℕ). allBelow k p) (le-antisymm (h .low) b)
+
+pub and-false : (t : Bool) → (t && false) ≡ false
+and-false true = refl
+and-false false = refl
+
+-- what fails at one number fails from there on
+fails : (n : ℕ) (p : ℕ → Bool) (i : ℕ) → i < n → p i ≡ false → allBelow n p ≡ false
+unfolding allBelow
+fails zero p i b e = let z : ⊥ = omega arith in absurd z
+fails (suc n) p i b e =
+    elim (decLt i n) [ yes q ↦ ap (λ (t : Bool). t && p n) (fails n p i q e) | no q ↦ (let j : i ≡ n = omega arith in ap (λ (t : Bool). allBelow n p && t) (ap p (sym j) ∙ e) ∙ and-false (allBelow n p)) ]
+
+pub below-stop : {n : ℕ} {p : ℕ → Bool} {i : ℕ} → Below n p i → i < n → p i ≡ false → false ≡ allBelow n p
+below-stop {n} {p} {i} h b e = sym (fails n p i b e)

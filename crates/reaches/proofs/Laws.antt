@@ -1,0 +1,82 @@
+-- The walk's promise has one result; an answered walk has exactly the keys that are reached, each once; a refused one has none.
+-- By what a visit from the start meets. Assumes nothing.
+use Prim.Native.Nat.{ℕ, _+_, _<_}
+use mathlib.Core.Path.{_≡_, refl, sym, ap, subst, _∙_}
+use mathlib.Core.Logic.{_≢_, ⊎-elim}
+use mathlib.Core.Bool.{true, false}
+use native.Mathlib.Omega.{arith}
+use lib.Dec.{leb}
+use lib.ListN.{getD, take, replicate}
+use borrow.Author.Tests.{leb-false}
+use Rattle.machine.specs.Words.{one, times}
+use Rattle.machine.specs.Slots.{number, view}
+use Rattle.machine.specs.Broken.{brokenOf}
+use Rattle.machine.specs.Unbroken.{Unbroken}
+use Rattle.machine.specs.declared.Machine.{Machine}
+use Rattle.machine.proofs.Laws.{unbroken, only}
+use Rattle.machine.proofs.Laws.Tests.{by-test, not-both}
+use Rattle.walk.specs.declared.Walked.{Walked}
+use Rattle.walk.specs.Walk.{unmet, walkedFrom, refusedWalk, walkOf}
+use Rattle.reaches.specs.Reaches.{Reach, here, by, Exactly, OneResult, AnsweredReaches, RefusedEmpty}
+use Rattle.reaches.proofs.Keys.{IsMet, none-met, sound-unmet}
+use Rattle.reaches.proofs.Visited.{Visited, visited}
+
+pub one-result : OneResult
+one-result m k x y p q = only (walkOf m k) x y p q
+
+-- the four answers of a walk
+data Answer (m : Machine) (k : ℕ) (r : Walked) : Type 0 where
+  refusing : (n : ℕ) → n ≢ 0 → r ≡ refusedWalk n → Answer m k r
+  answering : brokenOf m ≡ false → k < m .made → walkedFrom m k .fine ≡ true
+      → r ≡ record { answer = 0; keys = walkedFrom m k .keys; count = walkedFrom m k .count } → Answer m k r
+
+answer : (m : Machine) (k : ℕ) → Answer m k (walkOf m k)
+unfolding walkOf
+answer m k =
+    by-test (brokenOf m)
+    (λ b. simp b (refusing 1 (λ e. omega arith) refl))
+    (λ b. by-test (leb (m .made) k)
+    (λ o. simp (b, o) (refusing 2 (λ e. omega arith) refl))
+    (λ o. by-test (walkedFrom m k .fine)
+    (λ f. simp (b, o, f) (answering b (leb-false (m .made) k o) f refl))
+    (λ f. simp (b, o, f) (refusing 13 (λ e. omega arith) refl))))
+
+answer-of : {m : Machine} {k : ℕ} {r : Walked} → r ≡ walkOf m k → Answer m k r
+answer-of {m} {k} {r} p = subst (λ (x : Walked). Answer m k x) (sym p) (answer m k)
+
+pub refused-empty : RefusedEmpty
+refused-empty m k r p z = go (answer-of p)
+  where
+    go : Answer m k r → (r .keys ≡ replicate 16 0) × (r .count ≡ 0)
+    go (refusing n h e) = (ap (λ (x : Walked). x .keys) e, ap (λ (x : Walked). x .count) e)
+    go (answering b l f e) = absurd (z (ap (λ (x : Walked). x .answer) e))
+
+module _ (m : Machine) (k : ℕ) (b : brokenOf m ≡ false) (l : k < m .made) (f : walkedFrom m k .fine ≡ true) where
+  begun : Visited m k unmet (walkedFrom m k)
+  unfolding walkedFrom
+  begun =
+      let u : Unbroken m = unbroken m b in
+      let low : k < 16 = omega (arith, u .made16) in
+      visited m u 16 k (view m (number k 0) .store + 1) unmet low low sound-unmet
+
+  -- what is reached from a key that is met is met
+  onward : {j i : ℕ} → Reach m j i → IsMet (walkedFrom m k) j → IsMet (walkedFrom m k) i
+  onward here h = h
+  onward {j} (by {j = c} t r) h = onward r (⊎-elim (λ n. not-both _ n (none-met j)) (λ n. n c t) (begun .after .causes f j h))
+
+  met-reached : (i : ℕ) → IsMet (walkedFrom m k) i → Reach m k i
+  met-reached i h = ⊎-elim (λ n. not-both _ n (none-met i)) (λ n. n) (begun .after .from i h)
+
+  exactly : Exactly m k (record { answer = 0; keys = walkedFrom m k .keys; count = walkedFrom m k .count })
+  exactly = record {
+    once = λ i r. begun .after .sound .listed i ∙ ap one (onward r (begun .this f));
+    only = λ i h. by-test (getD (walkedFrom m k .met) i false) (λ e. met-reached i e)
+        (λ e. let none : times i (take (walkedFrom m k .count) (walkedFrom m k .keys)) ≡ 0 = begun .after .sound .listed i ∙ ap one e in let z : ⊥ = omega arith in absurd z);
+  }
+
+pub answered-reaches : AnsweredReaches
+answered-reaches m k r p z = go (answer-of p)
+  where
+    go : Answer m k r → Exactly m k r
+    go (refusing n h e) = absurd (h (sym (ap (λ (x : Walked). x .answer) e) ∙ z))
+    go (answering b l f e) = subst (λ (x : Walked). Exactly m k x) (sym e) (exactly m k b l f)

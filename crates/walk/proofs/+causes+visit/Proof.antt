@@ -1,0 +1,167 @@
+-- `walk::visit` and `walk::causes` meet their contracts: the key falls from a visit to those of its causes, with measures 2k + 1 and 2k.
+-- The loop's invariant: what is left to visit from here gives what all gives from the start. Assumes nothing.
+use Prim.Native.Nat.{ℕ, _<_, _+_, _*_, _-_}
+use borrow.Author.Needs.{needs}
+use borrow.Author.Tests.{not-true, not-false}
+use native.Mathlib.Omega.{arith}
+use mathlib.Core.Path.{sym, _∙_}
+use Rattle.walk.proofs.Counted.{room, tally-added}
+use Rattle.walk.proofs.Going.{Going, go-start, go-has, go-not, go-end, visit-spoiled, visit-met, visit-found, visit-missing}
+use borrow.Fn.Kinds.{In}
+use borrow.Fn.PlainCycle.{Measures, is, falls, and}
+use Rattle.walk.proofs.causes.Reads as causes
+use Rattle.walk.proofs.causes.Kinds as causes-kinds
+use Rattle.walk.proofs.+causes+visit.Lts-causes as causes-lts
+use Rattle.walk.proofs.visit.Reads as visit
+use Rattle.walk.proofs.visit.Kinds as visit-kinds
+use Rattle.walk.proofs.+causes+visit.Lts-visit as visit-lts
+use Rattle.walk.proofs.Met.add.Reads as add-reads
+use Rattle.walk.proofs.Met.spoil.Reads as spoil-reads
+use Rattle.walk.proofs.causes_held.Reads as causes-held-reads
+use Rattle.walk.proofs.found.Reads as found-reads
+use Rattle.walk.proofs.has.Reads as has-reads
+use Rattle.walk.proofs.hop.Reads as hop-reads
+use Rattle.walk.proofs.+causes+visit.{statement}
+use Rattle.walk.proofs.+causes+visit.Tie.{close}
+
+abbrev μ-causes : Measures 0 causes-kinds.ps ℕ
+μ-causes κs a = 2 * a .1 .1 .0
+
+abbrev μ-visit : Measures 0 visit-kinds.ps ℕ
+μ-visit κs a = 2 * a .1 .1 .0 + 1
+
+abbrev causes-at : ℕ → In 0 causes-kinds.ps
+causes-at t = and 0 causes-kinds.ps (is 0 causes-kinds.ps μ-causes t) causes.Pre
+
+abbrev causes-below : ℕ → In 0 causes-kinds.ps
+causes-below t = and 0 causes-kinds.ps (falls 0 causes-kinds.ps _<_ μ-causes t) causes.Pre
+
+abbrev visit-at : ℕ → In 0 visit-kinds.ps
+visit-at t = and 0 visit-kinds.ps (is 0 visit-kinds.ps μ-visit t) visit.Pre
+
+abbrev visit-below : ℕ → In 0 visit-kinds.ps
+visit-below t = and 0 visit-kinds.ps (falls 0 visit-kinds.ps _<_ μ-visit t) visit.Pre
+
+abbrev causes-claims : ℕ → causes-lts.Claims
+causes-claims t = (
+  causes-held-reads.Asked,
+  causes-held-reads.Learnt,
+  has-reads.Asked,
+  has-reads.Learnt,
+  hop-reads.Asked,
+  hop-reads.Learnt,
+  visit-below t,
+  visit.Post,
+)
+
+abbrev visit-claims : ℕ → visit-lts.Claims
+visit-claims t = (
+  found-reads.Asked,
+  found-reads.Learnt,
+  add-reads.Asked,
+  add-reads.Learnt,
+  causes-below t,
+  causes.Post,
+  spoil-reads.Asked,
+  spoil-reads.Learnt,
+)
+
+abbrev causes-Inv-loop : causes-lts.InvT-loop
+causes-Inv-loop m k link set out₀ j₀ out j = Going m set k link out₀ out j
+
+abbrev causes-μ-loop : causes-lts.MeasureT-loop
+causes-μ-loop m k link set out₀ j₀ out j = k - j
+
+causes-causes-held-requires : (t : ℕ) → causes-lts.Need-causes-held-requires (causes-claims t) (causes-at t) causes.Post causes-Inv-loop causes-μ-loop
+causes-causes-held-requires t c κs = (c .pre .1 .0, c .pre .1 .1, c .pre .1 .2)
+
+causes-loop-holds : (t : ℕ) → causes-lts.Need-loop-holds (causes-claims t) (causes-at t) causes.Post causes-Inv-loop causes-μ-loop
+causes-loop-holds t c = go-start (c .before .pre .1 .3)
+
+causes-has-requires : (t : ℕ) → causes-lts.Need-has-requires (causes-claims t) (causes-at t) causes.Post causes-Inv-loop causes-μ-loop
+causes-has-requires t c κs = omega arith
+
+causes-hop-requires : (t : ℕ) → causes-lts.Need-hop-requires (causes-claims t) (causes-at t) causes.Post causes-Inv-loop causes-μ-loop
+causes-hop-requires t c κs = (omega arith, omega arith, omega arith, omega arith)
+
+causes-visit-requires : (t : ℕ) → causes-lts.Need-visit-requires (causes-claims t) (causes-at t) causes.Post causes-Inv-loop causes-μ-loop
+causes-visit-requires t c κs = (omega (arith, c .before .before .before .before .before .before .pre .0), (omega arith, c .before .before .before .before .loop .inv .tally))
+
+causes-add-j : (t : ℕ) → causes-lts.Need-add-j (causes-claims t) (causes-at t) causes.Post causes-Inv-loop causes-μ-loop
+causes-add-j t c = omega arith
+
+causes-loop-less : (t : ℕ) → causes-lts.Need-loop-less (causes-claims t) (causes-at t) causes.Post causes-Inv-loop causes-μ-loop
+causes-loop-less t c = omega arith
+
+causes-loop-again : (t : ℕ) → causes-lts.Need-loop-again (causes-claims t) (causes-at t) causes.Post causes-Inv-loop causes-μ-loop
+causes-loop-again t c = go-has (c .before .before .before .before .before .loop .inv) (c .before .before .before .before .loop-test .taken) (sym (c .before .before .before .has .ensures) ∙ c .before .before .if1 .taken) (c .before .hop .ensures) (c .visit .ensures .0) (c .visit .ensures .1)
+
+causes-add-j-2 : (t : ℕ) → causes-lts.Need-add-j-2 (causes-claims t) (causes-at t) causes.Post causes-Inv-loop causes-μ-loop
+causes-add-j-2 t c = omega arith
+
+causes-loop-less-2 : (t : ℕ) → causes-lts.Need-loop-less-2 (causes-claims t) (causes-at t) causes.Post causes-Inv-loop causes-μ-loop
+causes-loop-less-2 t c = omega arith
+
+causes-loop-again-2 : (t : ℕ) → causes-lts.Need-loop-again-2 (causes-claims t) (causes-at t) causes.Post causes-Inv-loop causes-μ-loop
+causes-loop-again-2 t c = go-not (c .before .before .before .loop .inv) (c .before .before .loop-test .taken) (sym (c .before .has .ensures) ∙ c .if1 .left)
+
+causes-returns : (t : ℕ) → causes-lts.Need-returns (causes-claims t) (causes-at t) causes.Post causes-Inv-loop causes-μ-loop
+causes-returns t c = (c .before .loop .inv .tally, go-end (c .before .loop .inv) (c .loop-test .left) (c .before .before .causes-held .ensures))
+
+visit-returns : (t : ℕ) → visit-lts.Need-returns (visit-claims t) (visit-at t) visit.Post
+visit-returns t c = (c .before .pre .1 .1, visit-spoiled _ _ _ _ (not-true _ (c .if1 .taken)))
+
+visit-element-copy-out-if2 : (t : ℕ) → visit-lts.Need-element-copy-out-if2 (visit-claims t) (visit-at t) visit.Post
+visit-element-copy-out-if2 t c = search needs
+
+visit-returns-2 : (t : ℕ) → visit-lts.Need-returns-2 (visit-claims t) (visit-at t) visit.Post
+visit-returns-2 t c = (c .before .before .before .pre .1 .1, visit-met _ _ _ _ (not-false _ (c .before .before .if1 .left)) (c .if2 .taken))
+
+visit-found-requires : (t : ℕ) → visit-lts.Need-found-requires (visit-claims t) (visit-at t) visit.Post
+visit-found-requires t c κs = search needs
+
+visit-add-requires : (t : ℕ) → visit-lts.Need-add-requires (visit-claims t) (visit-at t) visit.Post
+visit-add-requires t c κs = (c .before .before .before .before .before .pre .1 .0, room (c .before .before .before .before .before .pre .1 .1) (c .before .before .before .before .before .pre .1 .0) (c .before .before .if2 .left))
+
+visit-causes-requires : (t : ℕ) → visit-lts.Need-causes-requires (visit-claims t) (visit-at t) visit.Post
+visit-causes-requires t c κs = (omega (arith, c .before .before .before .before .before .before .pre .0), (c .before .before .before .before .before .before .pre .1 .0, c .before .before .found .ensures .1 (c .before .if3 .taken) .0, c .before .before .found .ensures .1 (c .before .if3 .taken) .1, rw (c .add .ensures) (tally-added _ _ (c .before .before .before .before .before .before .pre .1 .1) (c .before .before .before .before .before .before .pre .1 .0) (c .before .before .before .if2 .left))))
+
+visit-returns-3 : (t : ℕ) → visit-lts.Need-returns-3 (visit-claims t) (visit-at t) visit.Post
+visit-returns-3 t c = (c .causes .ensures .0, visit-found _ _ _ _ (not-false _ (c .before .before .before .before .before .before .if1 .left)) (c .before .before .before .before .if2 .left) (sym (c .before .before .before .found .ensures .0) ∙ c .before .before .if3 .taken) (c .before .add .ensures) (c .causes .ensures .1))
+
+visit-spoil-requires : (t : ℕ) → visit-lts.Need-spoil-requires (visit-claims t) (visit-at t) visit.Post
+visit-spoil-requires t c κs = search needs
+
+visit-returns-4 : (t : ℕ) → visit-lts.Need-returns-4 (visit-claims t) (visit-at t) visit.Post
+visit-returns-4 t c = (rw (c .spoil .ensures) (record { long = c .before .before .before .before .before .before .pre .1 .1 .long; counted = c .before .before .before .before .before .before .pre .1 .1 .counted }), visit-missing _ _ _ _ (not-false _ (c .before .before .before .before .before .if1 .left)) (c .before .before .before .if2 .left) (sym (c .before .before .found .ensures .0) ∙ c .before .if3 .left) (c .spoil .ensures))
+
+pub +causes+visit-spec : {M : Type 1} → statement M
++causes+visit-spec = close μ-causes μ-visit (λ t. causes-lts.spec (causes-claims t)
+    (causes-at t)
+    causes.Post
+    causes-Inv-loop
+    causes-μ-loop
+    (causes-causes-held-requires t)
+    (causes-loop-holds t)
+    (causes-has-requires t)
+    (causes-hop-requires t)
+    (causes-visit-requires t)
+    (causes-add-j t)
+    (causes-loop-less t)
+    (causes-loop-again t)
+    (causes-add-j-2 t)
+    (causes-loop-less-2 t)
+    (causes-loop-again-2 t)
+    (causes-returns t))
+    λ t. visit-lts.spec (visit-claims t)
+    (visit-at t)
+    visit.Post
+    (visit-returns t)
+    (visit-element-copy-out-if2 t)
+    (visit-returns-2 t)
+    (visit-found-requires t)
+    (visit-add-requires t)
+    (visit-causes-requires t)
+    (visit-returns-3 t)
+    (visit-spoil-requires t)
+    (visit-returns-4 t)

@@ -1,0 +1,4 @@
+pub mod Tests
+pub mod Behind
+pub mod Counted
+pub mod Going
