@@ -112,7 +112,7 @@ flag true e = refl
 flag false e = absurd (let z : ⊥ = omega arith in z)
 
 module _ (u : Setup) (l : Legal u) where
-  reached : (steps : List Step) → Reached (after u steps)
+  pub reached : (steps : List Step) → Reached (after u steps)
   reached steps = run-reached (freshOf u) (fresh-reached u l) steps
 
   soon : (steps : List Step) (v : ℕ) → 4 ≤ view (after u steps) v .phase → AckedBy u steps v (view (after u steps) v .store)

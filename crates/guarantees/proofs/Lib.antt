@@ -11,3 +11,4 @@ pub mod Steps
 pub mod Acks
 pub mod Closing
 pub mod Demand
+pub mod Drained

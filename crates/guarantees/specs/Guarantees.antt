@@ -3,16 +3,46 @@ use Prim.Native.Nat.{ℕ, _+_, _-_, _*_, _≤_, _<_}
 use mathlib.Core.Path.{_≡_}
 use mathlib.Core.Bool.{Bool, true, false}
 use mathlib.Core.List.{List, [], _∷_, _++_}
-use lib.ListN.{length, getD}
-use Rattle.machine.specs.Words.{bit}
+use lib.Dec.{eqb}
+use lib.ListN.{length, getD, take}
+use Rattle.machine.specs.Words.{pick, bit, times}
 use Rattle.machine.specs.Slots.{number, view, contents, causeLinks, viewlink}
 use Rattle.machine.specs.Closed.{closedOf}
 use Rattle.machine.specs.declared.Machine.{Machine}
 use Rattle.machine.specs.declared.View.{View}
 use Rattle.machine.specs.declared.Setup.{Setup}
+use Rattle.rules.specs.Step.{stepOf}
 use Rattle.rules.specs.declared.Step.{Step}
-use Rattle.runs.specs.Run.{freshOf}
+use Rattle.rules.specs.declared.Step.the-variants.{Send, Receive, PreCheck, SendRecord, Timeout, TakeRecord, TakeAck, PostCheck, TakeRepair, SendUpdate, TakeUpdate, TakeUack, Expire, Lose, Crash, Restart}
+use Rattle.runs.specs.Book.{setupRead}
+use Rattle.runs.specs.Run.{freshOf, runOf, stepsRead}
+use Rattle.runs.specs.Drain.{allUp, drainOf}
+use Rattle.drains.specs.Drains.{stepsOf}
+use Rattle.walk.specs.Walk.{walkOf}
 use Rattle.guarantees.specs.Acknowledged.{Legal, after, accepted, acknowledged, AckedBy}
+
+-- the causes of a send; no other step has any
+abbrev pub causesOf : Step → List ℕ
+causesOf (Send from to own word causes) = causes ∷ []
+causesOf (Receive k) = []
+causesOf (PreCheck a) = []
+causesOf (SendRecord a) = []
+causesOf (Timeout a p) = []
+causesOf (TakeRecord p k r) = []
+causesOf (TakeAck p k r) = []
+causesOf (PostCheck a) = []
+causesOf (TakeRepair k r) = []
+causesOf (SendUpdate k r) = []
+causesOf (TakeUpdate p k r) = []
+causesOf (TakeUack p k r) = []
+causesOf (Expire k r) = []
+causesOf (Lose what p k r) = []
+causesOf (Crash p) = []
+causesOf (Restart p) = []
+
+-- the keys of a walk, in the order first met
+abbrev pub keysWalked : Machine → ℕ → List ℕ
+keysWalked m k = take (walkOf m k .count) (walkOf m k .keys)
 
 -- 1. One acknowledgement. In a run a view has at most one accepting step; a view in phase 4 or 5 has exactly one.
 pub record OneAcknowledgement : Type 0 where
@@ -59,3 +89,52 @@ ViewLinks =
     (u : Setup) → Legal u → (steps further : List Step) (k r p q : ℕ) → r < 2 → closedOf (after u steps) k ≡ true
     → AckedBy u steps (number k r) p → AckedBy u steps (number k (1 - r)) q
     → viewlink (after u (steps ++ further)) p (number k r) ≡ q + 1
+
+-- 6. The drain. If all stores are up, the drain's machine has every interaction closed; it takes at most 18 steps for each
+-- interaction made; the count that it reports is the number of steps that it took; and its machine is that of the run with its
+-- steps behind it, so 1 to 5 hold of it.
+pub record Drains (u : Setup) (steps : List Step) : Type 0 where
+  pub answer : drainOf (after u steps) .answer ≡ 0
+  pub closes : (k : ℕ) → k < after u steps .made → closedOf (drainOf (after u steps) .machine) k ≡ true
+  pub bound : drainOf (after u steps) .count ≤ after u steps .made * 18
+  pub count : drainOf (after u steps) .count ≡ length (stepsOf (after u steps))
+  pub run : drainOf (after u steps) .machine ≡ after u (steps ++ stepsOf (after u steps))
+  pub made : drainOf (after u steps) .machine .made ≡ after u steps .made
+
+abbrev pub TheDrain : Type 0
+TheDrain = (u : Setup) → Legal u → (steps : List Step) → allUp (after u steps) ≡ true → Drains u steps
+
+-- 7. The walk. After a drain of a machine that a run reached with all stores up, the walk of every key made is answered, and
+-- its keys are exactly those reachable over the causes as they were sent.
+
+-- the causes of the sends that were taken, in their order: those of interaction k stand at k
+unfoldable pub sentCauses : Machine → List Step → List ℕ
+sentCauses m [] = []
+sentCauses m (step ∷ steps) =
+    let rest = sentCauses (stepOf m step .machine) steps in
+    pick (eqb (stepOf m step .answer) 0) (causesOf step ++ rest) rest
+
+-- j is a cause that k was sent with; i is reached from k over such causes
+pub record SentCause (u : Setup) (steps : List Step) (k j : ℕ) : Type 0 where
+  pub low : j < 16
+  pub set : bit (getD (sentCauses (freshOf u) steps) k 0) j ≡ true
+
+pub data SentReach (u : Setup) (steps : List Step) : ℕ → ℕ → Type 0 where
+  here : {k : ℕ} → SentReach u steps k k
+  by : {k j i : ℕ} → SentCause u steps k j → SentReach u steps j i → SentReach u steps k i
+
+pub record Walks (u : Setup) (steps : List Step) (k : ℕ) : Type 0 where
+  pub answered : walkOf (drainOf (after u steps) .machine) k .answer ≡ 0
+  pub once : (i : ℕ) → SentReach u steps k i → times i (keysWalked (drainOf (after u steps) .machine) k) ≡ 1
+  pub only : (i : ℕ) → 1 ≤ times i (keysWalked (drainOf (after u steps) .machine) k) → SentReach u steps k i
+
+abbrev pub TheWalk : Type 0
+TheWalk = (u : Setup) → Legal u → (steps : List Step) → allUp (after u steps) ≡ true → (k : ℕ) → k < after u steps .made → Walks u steps k
+
+-- 8. Books. The machine that `run` gives for a book that is not refused is the one after a run from a legal setup, so 1 to 7 hold of it.
+pub record BookRun (book : List ℕ) (room : ℕ) : Type 0 where
+  pub legal : Legal (setupRead book)
+  pub machine : runOf book room .machine ≡ after (setupRead book) (stepsRead book)
+
+abbrev pub Books : Type 0
+Books = (book : List ℕ) (room : ℕ) → runOf book room .answer ≡ 0 → BookRun book room

@@ -1,32 +1,26 @@
--- Steps 3, 4, 5 and 7 keep every slot: the head of a queue is checked, its record sent, timed out, acknowledged. Assumes nothing.
-use Prim.Native.Nat.{ℕ, zero, suc, _+_, _*_, _-_, _/_, _%_, _≤_, _<_}
+-- The head of a queue is checked (3), its record sent (4), timed out (5), acknowledged (7): each keeps every slot. Assumes nothing.
+use Prim.Native.Nat.{ℕ, _*_, _-_, _≤_, _<_}
 use mathlib.Core.Path.{_≡_, refl, sym, ap, subst, _∙_}
-use mathlib.Core.Logic.{_≢_}
-use mathlib.Core.Bool.{Bool, true, false, _&&_, not}
-use mathlib.Core.List.{List}
+use mathlib.Core.Bool.{true, _&&_}
 use native.Mathlib.Omega.{arith}
-use lib.ListN.{length, getD, set}
-use lib.Seq.{getD-set-same, set-getD}
+use lib.ListN.{getD}
+use lib.Seq.{set-getD}
 use lib.Dec.{eqb}
-use Rattle.machine.specs.Words.{pick, bit, table}
-use Rattle.machine.specs.Slots.{number, noView, view, queue, recordCopies, ackCopies}
-use Rattle.machine.specs.Writes.{withView, withViews, withRecordCopies, withAckCopies}
-use Rattle.machine.specs.EverySlot.{ViewSlot, CopySlot, EverySlot}
+use Rattle.machine.specs.Words.{bit}
+use Rattle.machine.specs.Slots.{number, noView, view, queue}
+use Rattle.machine.specs.Writes.{withView, withViews}
+use Rattle.machine.specs.EverySlot.{ViewSlot, EverySlot}
 use Rattle.machine.specs.declared.Machine.{Machine}
 use Rattle.machine.specs.declared.View.{View}
 use Rattle.machine.proofs.Laws.Tests.{not-both, by-test, and-left, and-right}
 use Rattle.machine.proofs.Laws.Every.{length-table, table-at}
-use Rattle.machine.proofs.Laws.Says.{eq-says, zero-splits, not-says, and-says}
-use Rattle.machine.proofs.Laws.Room.{stores8}
-use Rattle.rules.specs.Rule.{head, headView, phased, more}
+use Rattle.machine.proofs.Laws.Says.{eq-says, zero-splits}
+use Rattle.rules.specs.Rule.{head, headView, phased}
 use Rattle.rules.specs.PreCheck.{checkedLink, checkedView, preChecked}
-use Rattle.rules.specs.SendRecord.{recordSent}
 use Rattle.rules.specs.Timeout.{movedView, timedOut}
-use Rattle.rules.specs.TakeAck.{isHead, accepts, ackedView, ackTaken}
-use Rattle.keeps.specs.Taken.{HeadIn, PlaceOf, TimeoutTaken, TakeAckTaken}
-use Rattle.keeps.proofs.Writes.{record-write, ack-write}
-use Rattle.keeps.proofs.Heads.{moved-job, actor-8, head-own, head-from, head-to, head-32, head-made, head-write}
-use Rattle.keeps.proofs.Stores.{pick-case, fewer-copies, more-copies, store-8, number-32}
+use Rattle.keeps.specs.Taken.{HeadIn, TimeoutTaken}
+use Rattle.keeps.proofs.Heads.{moved-job, head-from, head-to, head-32, head-made, head-write}
+use Rattle.keeps.proofs.Cases.{pick-case}
 
 -- a view in another phase from 1 to 5, all else as it is
 pub phased-slot : {stores actors made sender v : ℕ} (w : View) (n : ℕ) → 1 ≤ w .phase → 1 ≤ n → n ≤ 5 → v < made * 2 → ViewSlot stores actors made sender v w → ViewSlot stores actors made sender v (phased n w)
@@ -63,21 +57,6 @@ module _ (m : Machine) (s : EverySlot m) (a : ℕ) (ha : a < m .actors) (some : 
       head-write m s a ha some (phased n (headView m a)) refl (omega arith) high
       (moved-job m s (head m a) hv to (phased n (headView m a)) x low refl refl refl (λ h. refl))
 
-pub send-record-kept : (m : Machine) → EverySlot m → (a : ℕ) → HeadIn 2 m a → EverySlot (recordSent m a)
-unfolding recordSent
-send-record-kept m s a c =
-    let ha = c .actorIn in
-    let some = c .queued in
-    let v = head m a in
-    let hv = head-32 m s a ha some in
-    let hs = s .viewAt v hv .storeIn (head-from m s a ha some) in
-    let p = headView m a .store in
-    let hp = store-8 m s p hs in
-    let s₁ = phase-write m s a ha some 3 (omega arith) (omega arith) in
-    let long = s .sized .views in
-    let now : view (withView m v (phased 3 (headView m a))) v .phase ≡ 3 = ap (λ (x : View). x .phase) (getD-set-same (m .views) v (phased 3 (headView m a)) noView (omega arith)) in
-    record-write (withView m v (phased 3 (headView m a))) s₁ p v hp hv (more (recordCopies m p v)) (more-copies (s₁ .recordAt p v hp hv) hs (omega arith))
-
 pub timeout-kept : (m : Machine) → EverySlot m → (a p : ℕ) → TimeoutTaken m a p → EverySlot (timedOut m a p)
 unfolding timedOut
 timeout-kept m s a p c =
@@ -89,26 +68,26 @@ timeout-kept m s a p c =
     let made = head-made m s a ha some in
     let w = movedView p (headView m a) in
     let x : ViewSlot (m .stores) (m .actors) (m .made) (view m (head m a - 1) .actor) (head m a) w =
-        record {
-          linksLong = old .linksLong;
-          causeBelow = old .causeBelow;
-          linkIn = old .linkIn;
-          linkBlank = old .linkBlank;
-          storeIn = λ h. c .storeIn;
-          viewlinkIn = λ h. old .viewlinkIn from;
-          storeUnset = λ e. absurd (omega arith);
-          viewlinkUnset = λ e. absurd (omega arith);
-          changedUnset = λ e. absurd (omega arith);
-          causesUnset = λ e. absurd (omega arith);
-          wordUnset = λ e. absurd (omega arith);
-          actorIn = old .actorIn;
-          phase5 = λ h. omega arith;
-          senderMade = λ h r. omega arith;
-          receiverCauses = old .receiverCauses;
-          twoActors = old .twoActors;
-          actorBlank = old .actorBlank;
-          phaseBlank = λ h. absurd (omega arith);
-        } in
+    record {
+      linksLong = old .linksLong;
+      causeBelow = old .causeBelow;
+      linkIn = old .linkIn;
+      linkBlank = old .linkBlank;
+      storeIn = λ h. c .storeIn;
+      viewlinkIn = λ h. old .viewlinkIn from;
+      storeUnset = λ e. absurd (omega arith);
+      viewlinkUnset = λ e. absurd (omega arith);
+      changedUnset = λ e. absurd (omega arith);
+      causesUnset = λ e. absurd (omega arith);
+      wordUnset = λ e. absurd (omega arith);
+      actorIn = old .actorIn;
+      phase5 = λ h. omega arith;
+      senderMade = λ h r. omega arith;
+      receiverCauses = old .receiverCauses;
+      twoActors = old .twoActors;
+      actorBlank = old .actorBlank;
+      phaseBlank = λ h. absurd (omega arith);
+    } in
     head-write m s a ha some w refl (omega arith) (omega arith) (moved-job m s (head m a) hv (head-to m s a ha some) w x (omega arith) refl refl refl (λ h. refl))
 
 pub pre-check-kept : (m : Machine) → EverySlot m → (a : ℕ) → HeadIn 1 m a → EverySlot (preChecked m a)
@@ -125,58 +104,36 @@ pre-check-kept m s a c =
     let w = checkedView m o in
     let at : (j : ℕ) → j < 16 → getD (w .links) j 0 ≡ checkedLink m o j = λ j h. table-at (checkedLink m o) 16 0 j h in
     let store : (j : ℕ) → j < 16 → view m (number j 1) .changed ≡ true → view m (number j 1) .store < m .stores =
-        λ j h e. s .viewAt (number j 1) (omega arith) .storeIn
-            (zero-splits (view m (number j 1) .phase) .fails (by-test (eqb (view m (number j 1) .phase) 0)
-            (λ z. not-both (view m (number j 1) .changed) e (s .viewAt (number j 1) (omega arith) .changedUnset (eq-says (view m (number j 1) .phase) 0 .tells z))) (λ z. z))) in
+    λ j h e. s .viewAt (number j 1) (omega arith) .storeIn
+    (zero-splits (view m (number j 1) .phase) .fails (by-test (eqb (view m (number j 1) .phase) 0)
+    (λ z. not-both (view m (number j 1) .changed) e (s .viewAt (number j 1) (omega arith) .changedUnset (eq-says (view m (number j 1) .phase) 0 .tells z))) (λ z. z))) in
     let x : ViewSlot (m .stores) (m .actors) (m .made) (view m (head m a - 1) .actor) (head m a) w =
-        record {
-          linksLong = length-table (checkedLink m o) 16;
-          causeBelow = old .causeBelow;
-          linkIn = λ j h b. subst (λ (n : ℕ). n < m .stores) (sym (at j h))
-              (pick-case (λ (n : ℕ). n < m .stores) (bit (o .causes) j && view m (number j 1) .changed) _ _
-              (λ e. store j h (and-right (bit (o .causes) j) (view m (number j 1) .changed) e)) (λ e. old .linkIn j h b));
-          linkBlank = λ j h b. at j h
-              ∙ pick-case (λ (n : ℕ). n ≡ 0) (bit (o .causes) j && view m (number j 1) .changed) _ _
-              (λ e. not-both (bit (o .causes) j) (and-left (bit (o .causes) j) (view m (number j 1) .changed) e) b) (λ e. old .linkBlank j h b);
-          storeIn = λ h. old .storeIn from;
-          viewlinkIn = λ h. old .viewlinkIn from;
-          storeUnset = λ e. absurd (omega arith);
-          viewlinkUnset = λ e. absurd (omega arith);
-          changedUnset = λ e. absurd (omega arith);
-          causesUnset = λ e. absurd (omega arith);
-          wordUnset = λ e. absurd (omega arith);
-          actorIn = old .actorIn;
-          phase5 = λ h. omega arith;
-          senderMade = λ h r. omega arith;
-          receiverCauses = old .receiverCauses;
-          twoActors = old .twoActors;
-          actorBlank = old .actorBlank;
-          phaseBlank = λ h. absurd (omega arith);
-        } in
+    record {
+      linksLong = length-table (checkedLink m o) 16;
+      causeBelow = old .causeBelow;
+      linkIn = λ j h b. subst (λ (n : ℕ). n < m .stores) (sym (at j h))
+          (pick-case (λ (n : ℕ). n < m .stores) (bit (o .causes) j && view m (number j 1) .changed) _ _
+          (λ e. store j h (and-right (bit (o .causes) j) (view m (number j 1) .changed) e)) (λ e. old .linkIn j h b));
+      linkBlank = λ j h b. at j h
+          ∙ pick-case (λ (n : ℕ). n ≡ 0) (bit (o .causes) j && view m (number j 1) .changed) _ _
+          (λ e. not-both (bit (o .causes) j) (and-left (bit (o .causes) j) (view m (number j 1) .changed) e) b) (λ e. old .linkBlank j h b);
+      storeIn = λ h. old .storeIn from;
+      viewlinkIn = λ h. old .viewlinkIn from;
+      storeUnset = λ e. absurd (omega arith);
+      viewlinkUnset = λ e. absurd (omega arith);
+      changedUnset = λ e. absurd (omega arith);
+      causesUnset = λ e. absurd (omega arith);
+      wordUnset = λ e. absurd (omega arith);
+      actorIn = old .actorIn;
+      phase5 = λ h. omega arith;
+      senderMade = λ h r. omega arith;
+      receiverCauses = old .receiverCauses;
+      twoActors = old .twoActors;
+      actorBlank = old .actorBlank;
+      phaseBlank = λ h. absurd (omega arith);
+    } in
     head-write m s a ha some w refl (omega arith) (omega arith) (moved-job m s (head m a) hv (head-to m s a ha some) w x (omega arith) refl refl refl (λ h. absurd (omega arith)))
 
 -- a view that is written as it was
 pub same-view : (m : Machine) (v : ℕ) → withView m v (view m v) ≡ m
 same-view m v = ap (withViews m) (set-getD (m .views) v noView)
-
-acked-kept : (m : Machine) → EverySlot m → (p v : ℕ) → v < m .made * 2 → v < 32 → EverySlot (withView m v (ackedView m p v))
-acked-kept m s p v made hv =
-    pick-case (λ (x : View). EverySlot (withView m v x)) (accepts m p v) (phased 4 (view m v)) (view m v)
-    (λ e.
-      let a = view m v .actor in
-      let h = and-left (isHead m v) (eqb (view m v .phase) 3) (and-left (isHead m v && eqb (view m v .phase) 3) (eqb (view m v .store) p) e) in
-      let d = and-says (not-says (zero-splits (queue m a .len))) (eq-says (head m a) v) .tells h in
-      subst (λ (n : ℕ). EverySlot (withView m n (phased 4 (view m n)))) (d .1) (phase-write m s a (s .viewAt v hv .actorIn made) (d .0) 4 (omega arith) (omega arith)))
-    (λ e. subst EverySlot (sym (same-view m v)) s)
-
-pub take-ack-kept : (m : Machine) → EverySlot m → (p k r : ℕ) → TakeAckTaken m p k r → EverySlot (ackTaken m p k r)
-unfolding ackTaken
-take-ack-kept m s p k r c =
-    let o = c .place in
-    let hk = o .keyIn in
-    let hr = o .roleIn in
-    let v = number k r in
-    let hp = store-8 m s p (o .storeIn) in
-    let hv = number-32 m s k r hk hr in
-    let s₁ = acked-kept m s p v (omega arith) hv in
-    ack-write (withView m v (ackedView m p v)) s₁ p v hp hv (ackCopies m p v - 1) (fewer-copies (s₁ .ackAt p v hp hv))

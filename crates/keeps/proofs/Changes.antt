@@ -1,26 +1,24 @@
 -- A change leaves every slot as it must be; each taken step is a chain of changes; so what every change keeps, every step keeps.
 -- The kinds are walked here, once. Assumes nothing.
-use Prim.Native.Nat.{ℕ, zero, suc, _+_, _*_, _-_, _≤_, _<_}
-use mathlib.Core.Path.{_≡_, refl, sym, ap, subst, _∙_}
-use mathlib.Core.Logic.{_≢_}
+use Prim.Native.Nat.{ℕ, _+_, _-_, _≤_, _<_}
+use mathlib.Core.Path.{_≡_, sym, ap, subst, _∙_}
 use mathlib.Core.Bool.{Bool, true, false, _&&_}
 use mathlib.Core.List.{List}
 use native.Mathlib.Omega.{arith}
-use lib.ListN.{length, getD, set}
 use lib.Seq.{getD-set-same, set-getD}
 use lib.Dec.{eqb}
-use borrow.Author.Tests.{eqb-true, eqb-false}
+use borrow.Author.Tests.{eqb-true}
 use Rattle.machine.specs.Words.{pick}
-use Rattle.machine.specs.Slots.{number, place, noView, noEntry, noContents, statusNumber, view, queue, repair, entry, recordCopies, ackCopies, updateCopies, uackCopies, contents, viewlink}
-use Rattle.machine.specs.Writes.{withUpAt, withView, withEntry, withEntries, withViewlink, withRecordCopies, withAckCopies, withUpdateCopies, withUackCopies}
+use Rattle.machine.specs.Slots.{number, place, noView, noEntry, noContents, statusNumber, view, queue, entry, recordCopies, ackCopies, updateCopies, uackCopies, contents, viewlink}
+use Rattle.machine.specs.Writes.{withView, withEntry, withEntries, withViewlink, withAckCopies, withUackCopies, withRecordCopies, withUpdateCopies}
 use Rattle.machine.specs.Broken.{brokenOf}
-use Rattle.machine.specs.EverySlot.{EverySlot, ViewlinkSlot}
+use Rattle.machine.specs.EverySlot.{EverySlot}
 use Rattle.machine.specs.declared.Machine.{Machine}
 use Rattle.machine.specs.declared.View.{View}
 use Rattle.machine.specs.declared.Entry.{Entry}
 use Rattle.machine.specs.declared.Contents.{Contents}
 use Rattle.machine.specs.declared.Status.{Status}
-use Rattle.machine.specs.declared.Status.the-variants.{Nothing, ToSend, Waiting, Done}
+use Rattle.machine.specs.declared.Status.the-variants.{ToSend, Waiting, Done}
 use Rattle.machine.proofs.Laws.{slots}
 use Rattle.machine.proofs.Laws.Tests.{and-left, and-right}
 use Rattle.machine.proofs.Laws.Says.{eq-says, zero-splits, not-says, and-says}
@@ -40,20 +38,20 @@ use Rattle.rules.specs.Restart.{restarted}
 use Rattle.rules.specs.Step.{numberOf, afterOf, stepOf}
 use Rattle.rules.specs.declared.Step.{Step}
 use Rattle.rules.specs.declared.Step.the-variants.{Send, Receive, PreCheck, SendRecord, Timeout, TakeRecord, TakeAck, PostCheck, TakeRepair, SendUpdate, TakeUpdate, TakeUack, Expire, Lose, Crash, Restart}
-use Rattle.keeps.specs.Taken.{HeadIn, ViewOf, PlaceOf, TimeoutTaken, TakeRecordTaken, TakeAckTaken, SendUpdateTaken, TakeUpdateTaken, TakeUackTaken, ExpireTaken, LoseTaken, Taken}
+use Rattle.keeps.specs.Taken.{HeadIn, PlaceOf, TakeRecordTaken, TakeAckTaken, SendUpdateTaken, TakeUpdateTaken, TakeUackTaken, LoseTaken, Taken}
 use Rattle.keeps.specs.Change.{HeadMove, isChecked, isSent, isMoved, isAcked, withFlight, FlightMove, recordComes, recordGoes, ackComes, ackGoes, updateComes, updateGoes, uackComes, uackGoes}
 use Rattle.keeps.specs.Change.{withHeld, LinkMove, isWritten, isUpdated, StatusMove, isWaiting, isExpired, isDone, Change, onUp, onSend, onReceive, onHead, onSettle, onFlight, onHeld, onViewlink, onStatus, onRepair, Changes, nothing, then}
 use Rattle.keeps.proofs.Index.{place-same}
 use Rattle.keeps.proofs.Conditions.{taken-when, waiting}
 use Rattle.keeps.proofs.Writes.{up-write, record-write, ack-write, update-write, uack-write, viewlink-write}
 use Rattle.keeps.proofs.Heads.{head-32, head-from, head-made}
-use Rattle.keeps.proofs.Stores.{pick-case, fewer-copies, more-copies, store-8, key-16, number-32, written-held, holds, linked, fewerOf}
+use Rattle.keeps.proofs.Stores.{fewer-copies, more-copies, store-8, number-32, written-held, holds, linked}
 use Rattle.keeps.proofs.Coordinator.{status-write, take-repair-kept}
 use Rattle.keeps.proofs.Actors.{phase-write, pre-check-kept, timeout-kept, same-view}
 use Rattle.keeps.proofs.PostCheck.{post-check-kept}
 use Rattle.keeps.proofs.Receive.{receive-kept}
 use Rattle.keeps.proofs.Send.{send-kept}
-use Rattle.keeps.proofs.Keeps.{step-case}
+use Rattle.keeps.proofs.Cases.{pick-case, step-case}
 
 -- each change keeps every slot
 head-kept : (m : Machine) → EverySlot m → (a : ℕ) (w : View) → HeadMove m a w → EverySlot (withView m (head m a) w)
@@ -130,6 +128,12 @@ change-kept m n s (onRepair k r c) = take-repair-kept m s k r c
 one : (m n : Machine) → Change m n → Changes m n
 one m n c = then m n nothing c
 
+-- one copy fewer of a record, an ack, an update or a uack
+abbrev fewerOf : Machine → ℕ → ℕ → Bool → Bool → Bool → Machine
+fewerOf m p v a b c =
+    let n = pick a (recordCopies m p v) (pick b (ackCopies m p v) (pick c (updateCopies m p v) (uackCopies m p v))) - 1 in
+    pick a (withRecordCopies m p v n) (pick b (withAckCopies m p v n) (pick c (withUpdateCopies m p v n) (withUackCopies m p v n)))
+
 -- a choice of two values for a slot: the change, or the slot as it is
 choose : {A : Type 0} (m : Machine) (write : A → Machine) (c : Bool) (x y : A) → (c ≡ true → Changes m (write x)) → write y ≡ m → Changes m (write (pick c x y))
 choose m write c x y f e = pick-case (λ z. Changes m (write z)) c x y f (λ b. subst (Changes m) (sym e) nothing)
@@ -168,10 +172,10 @@ module _ (m : Machine) (s : EverySlot m) where
       let o₂ : PlaceOf m₂ p k r = record { storeIn = hs; keyIn = hk; roleIn = hr } in
       let w = writtenContents (contents m p v) (view m v) in
       let there : contents m₁ p v .held ≡ true =
-          ap (λ (x : Contents). x .held) (place-same (m .contents) p v w noContents (s .sized .contents) hp hv) ∙ written-held m s p k hp hs hk (contents m p v) (view m v) in
+      ap (λ (x : Contents). x .held) (place-same (m .contents) p v w noContents (s .sized .contents) hp hv) ∙ written-held m s p k hp hs hk (contents m p v) (view m v) in
       let link : 1 ≤ viewlink m₂ p v =
-          subst (λ (n : ℕ). 1 ≤ n) (sym (place-same (m .viewlinks) p v l 0 (s .sized .viewlinks) hp hv))
-          (pick-case (λ (n : ℕ). 1 ≤ n) (eqb (viewlink m p v) 0) (view m v .viewlink + 1) (viewlink m p v) (λ e. omega arith) (λ e. zero-splits (viewlink m p v) .fails e)) in
+      subst (λ (n : ℕ). 1 ≤ n) (sym (place-same (m .viewlinks) p v l 0 (s .sized .viewlinks) hp hv))
+      (pick-case (λ (n : ℕ). 1 ≤ n) (eqb (viewlink m p v) 0) (view m v .viewlink + 1) (viewlink m p v) (λ e. omega arith) (λ e. zero-splits (viewlink m p v) .fails e)) in
       then m₃ _
       (then m₂ m₃
       (then m₁ m₂ (one m m₁ (onHeld p k r o (c .copy))) (onViewlink p k v l hs hk (isWritten r hr (c .copy) there)))
@@ -190,18 +194,18 @@ module _ (m : Machine) (s : EverySlot m) where
       let o₁ : PlaceOf m₁ p k r = record { storeIn = o .storeIn; keyIn = hk; roleIn = hr } in
       let a = view m v .actor in
       let accepted : accepts m p v ≡ true → Changes m (withView m v (phased 4 (view m v))) =
-          λ e.
-            let i = and-left (isHead m v && eqb (view m v .phase) 3) (eqb (view m v .store) p) e in
-            let d = and-says (not-says (zero-splits (queue m a .len))) (eq-says (head m a) v) .tells (and-left (isHead m v) (eqb (view m v .phase) 3) i) in
-            let here = d .1 in
-            let h : HeadIn 3 m a = record {
-              actorIn = s .viewAt v hv .actorIn (omega arith);
-              queued = d .0;
-              headPhase = ap (λ (n : ℕ). view m n .phase) here ∙ eqb-true (view m v .phase) 3 (and-right (isHead m v) (eqb (view m v .phase) 3) i);
-            } in
-            let at = ap (λ (n : ℕ). view m n .store) here ∙ eqb-true (view m v .store) p (and-right (isHead m v && eqb (view m v .phase) 3) (eqb (view m v .store) p) e) in
-            subst (λ (n : ℕ). Changes m (withView m n (phased 4 (view m n)))) here
-            (one m _ (onHead a (phased 4 (headView m a)) (isAcked p h at (subst (λ (n : ℕ). 1 ≤ ackCopies m p n) (sym here) (c .copy))))) in
+      λ e.
+      let i = and-left (isHead m v && eqb (view m v .phase) 3) (eqb (view m v .store) p) e in
+      let d = and-says (not-says (zero-splits (queue m a .len))) (eq-says (head m a) v) .tells (and-left (isHead m v) (eqb (view m v .phase) 3) i) in
+      let here = d .1 in
+      let h : HeadIn 3 m a = record {
+        actorIn = s .viewAt v hv .actorIn (omega arith);
+        queued = d .0;
+        headPhase = ap (λ (n : ℕ). view m n .phase) here ∙ eqb-true (view m v .phase) 3 (and-right (isHead m v) (eqb (view m v .phase) 3) i);
+      } in
+      let at = ap (λ (n : ℕ). view m n .store) here ∙ eqb-true (view m v .store) p (and-right (isHead m v && eqb (view m v .phase) 3) (eqb (view m v .store) p) e) in
+      subst (λ (n : ℕ). Changes m (withView m n (phased 4 (view m n)))) here
+      (one m _ (onHead a (phased 4 (headView m a)) (isAcked p h at (subst (λ (n : ℕ). 1 ≤ ackCopies m p n) (sym here) (c .copy))))) in
       then m₁ _ (choose m (withView m v) (accepts m p v) (phased 4 (view m v)) (view m v) accepted (same-view m v))
       (onFlight (m .records) _ (m .updates) (m .uacks) (ackGoes p k r o₁ (c .copy)))
 
@@ -265,15 +269,12 @@ module _ (m : Machine) (s : EverySlot m) where
   unfolding lost
   lose-changes what p k r c = go (eqb what 0) (eqb what 1) (eqb what 2) (c .copy)
     where
-      v : ℕ
-      v = number k r
-
       o : PlaceOf m p k r
       o = c .place
 
       go : (a b d : Bool)
           → 1 ≤ pick a (recordCopies m p (number k r)) (pick b (ackCopies m p (number k r)) (pick d (updateCopies m p (number k r)) (uackCopies m p (number k r))))
-          → Changes m (fewerOf m s p (number k r) (store-8 m s p (c .place .storeIn)) (number-32 m s k r (c .place .keyIn) (c .place .roleIn)) a b d)
+          → Changes m (fewerOf m p (number k r) a b d)
       go true b d h = one m _ (onFlight _ (m .acks) (m .updates) (m .uacks) (recordGoes p k r o h))
       go false true d h = one m _ (onFlight (m .records) _ (m .updates) (m .uacks) (ackGoes p k r o h))
       go false false true h = one m _ (onFlight (m .records) (m .acks) _ (m .uacks) (updateGoes p k r o h))
@@ -299,17 +300,20 @@ taken-changes m (Lose what p k r) e c = lose-changes m e what p k r c
 taken-changes m (Crash p) e c = one m _ (onUp p false (c .storeIn))
 taken-changes m (Restart p) e c = one m _ (onUp p true (c .storeIn))
 
+-- every slot is kept through a chain of changes
+pub changes-kept : (m n : Machine) → EverySlot m → Changes m n → EverySlot n
+changes-kept m n s nothing = s
+changes-kept m n s (then k o c d) = change-kept k o (changes-kept m k s c) d
+
 -- a relation that holds of every change, and of nothing and of one after the other, holds of every step
 module _ (R : Machine → Machine → Type 0) (still : (m : Machine) → R m m) (after : (m n o : Machine) → R m n → R n o → R m o)
     (each : (m n : Machine) → EverySlot m → Change m n → R m n) where
-  chain : (m n : Machine) → EverySlot m → Changes m n → EverySlot n × R m n
-  chain m n s nothing = (s, still m)
-  chain m n s (then k o c d) =
-      let p = chain m k s c in
-      (change-kept k o (p .0) d, after m k o (p .1) (each k o (p .0) d))
+  chain : (m n : Machine) → EverySlot m → Changes m n → R m n
+  chain m n s nothing = still m
+  chain m n s (then k o c d) = after m k o (chain m k s c) (each k o (changes-kept m k s c) d)
 
   pub taken-related : (m : Machine) (s : Step) → brokenOf m ≡ false → numberOf m s ≡ 0 → R m (afterOf m s)
-  taken-related m s e z = let u = slots m e in chain m (afterOf m s) u (taken-changes m s u (taken-when m s z)) .1
+  taken-related m s e z = let u = slots m e in chain m (afterOf m s) u (taken-changes m s u (taken-when m s z))
 
   pub step-related : (m : Machine) (s : Step) → R m (stepOf m s .machine)
   step-related m s = step-case m s (λ x. R m (x .machine)) (λ e. still m) (λ e z. taken-related m s e z) (λ e n. still m)

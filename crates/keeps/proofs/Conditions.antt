@@ -1,18 +1,16 @@
 -- Each kind's number is 0 exactly if its condition holds: one law for each word of a rule, then kind by kind. Assumes nothing.
-use Prim.Native.Nat.{ℕ, zero, suc, _+_, _-_, _≤_, _<_}
-use mathlib.Core.Path.{_≡_, refl, sym, ap, subst, _∙_}
-use mathlib.Core.Logic.{_≢_}
-use mathlib.Core.Bool.{Bool, true, false, _&&_, _||_, not, false≢true, true≢false}
+use Prim.Native.Nat.{ℕ, _≤_, _<_}
+use mathlib.Core.Path.{_≡_, refl, sym, ap, _∙_}
+use mathlib.Core.Bool.{Bool, true, _||_, not}
 use native.Mathlib.Omega.{arith}
-use lib.Dec.{ltb, leb, eqb}
-use Rattle.machine.specs.Words.{pick, bit, allBelow}
+use Rattle.machine.specs.Words.{pick, bit}
 use Rattle.machine.specs.Slots.{number, statusNumber, list, isUp, queue, view, repair, entry, recordCopies, ackCopies, updateCopies, uackCopies}
 use Rattle.machine.specs.declared.Machine.{Machine}
 use Rattle.machine.specs.declared.Status.{Status}
 use Rattle.machine.specs.declared.Status.the-variants.{Nothing, ToSend, Waiting, Done}
-use Rattle.machine.proofs.Laws.Tests.{not-both, by-test, nor-left, nor-right, nor-both}
+use Rattle.machine.proofs.Laws.Tests.{by-test, nor-left, nor-right, nor-both}
 use Rattle.machine.proofs.Laws.Every.{below-at, below-each}
-use Rattle.machine.proofs.Laws.Says.{Says, Splits, le-says, lt-says, eq-says, is-says, le-splits, lt-splits, eq-splits, zero-splits, is-splits, and-says, or-says, not-says, not-splits, un-splits, put-says}
+use Rattle.machine.proofs.Laws.Says.{Says, Splits, lt-says, eq-says, is-says, le-splits, eq-splits, zero-splits, is-splits, and-says, or-says, not-says, not-splits, un-splits, put-says}
 use Rattle.rules.specs.Rule.{refused, outside, headView, headIn}
 use Rattle.rules.specs.Send.{received, causeKnown, causesKnown, sendNo}
 use Rattle.rules.specs.Receive.{receiveNo}
@@ -33,7 +31,7 @@ use Rattle.rules.specs.Restart.{restartNo}
 use Rattle.rules.specs.Step.{numberOf}
 use Rattle.rules.specs.declared.Step.{Step}
 use Rattle.rules.specs.declared.Step.the-variants.{Send, Receive, PreCheck, SendRecord, Timeout, TakeRecord, TakeAck, PostCheck, TakeRepair, SendUpdate, TakeUpdate, TakeUack, Expire, Lose, Crash, Restart}
-use Rattle.keeps.specs.Taken.{HeadIn, ViewOf, PlaceOf, ReceivedBy, SendTaken, ReceiveTaken, TimeoutTaken, TakeRecordTaken, TakeAckTaken, TakeRepairTaken, SendUpdateTaken, TakeUpdateTaken, TakeUackTaken, ExpireTaken, LoseTaken, CrashTaken, RestartTaken, Taken}
+use Rattle.keeps.specs.Taken.{HeadIn, PlaceOf, ReceivedBy, SendTaken, ReceiveTaken, TimeoutTaken, TakeRecordTaken, TakeAckTaken, TakeRepairTaken, SendUpdateTaken, TakeUpdateTaken, TakeUackTaken, ExpireTaken, LoseTaken, CrashTaken, RestartTaken, Taken}
 
 -- a number is 0 exactly if a fact holds
 record Zero (n : ℕ) (P : Type 0) : Type 0 where

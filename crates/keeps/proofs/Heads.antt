@@ -1,28 +1,21 @@
 -- The head of a queue: it is a view of this actor in a phase from 1 to 4, and stands nowhere else. It moves on within its phases,
 -- or leaves. Assumes nothing.
-use Prim.Native.Nat.{ℕ, zero, suc, _+_, _*_, _-_, _/_, _%_, _≤_, _<_}
+use Prim.Native.Nat.{ℕ, _*_, _-_, _≤_, _<_}
 use mathlib.Core.Path.{_≡_, refl, sym, ap, subst, _∙_}
 use mathlib.Core.Logic.{_≢_}
-use mathlib.Core.Bool.{Bool, true, false}
-use mathlib.Core.List.{List, [], _∷_, _++_}
+use mathlib.Core.List.{List}
 use native.Mathlib.Omega.{arith}
-use native.Mathlib.Decide.{ℕ-discrete, decLt}
-use lib.ListN.{length, getD, set, take, drop, length-set, length-take, length-append, length-drop, List·getD-append}
-use lib.Seq.{getD-drop, getD-append-seam, getD-set-same, getD-set-other, take-append-le}
-use lib.Dec.{eqb}
-use Rattle.machine.specs.Words.{times, one}
-use Rattle.machine.specs.Slots.{number, noView, noQueue, statusNumber, standing, view, queue, message, repair, entry, recordCopies, ackCopies, contents, causeLinks}
-use Rattle.machine.specs.Writes.{withView, withQueue}
-use Rattle.machine.specs.EverySlot.{ViewSlot, QueueSlot, RepairSlot, EntrySlot, CopySlot, ContentsSlot, LinksSlot, EverySlot}
+use lib.ListN.{getD, set}
+use Rattle.machine.specs.Words.{times}
+use Rattle.machine.specs.Slots.{noView, standing, view, queue}
+use Rattle.machine.specs.Writes.{withView}
+use Rattle.machine.specs.EverySlot.{ViewSlot, QueueSlot, EverySlot}
 use Rattle.machine.specs.declared.Machine.{Machine}
 use Rattle.machine.specs.declared.View.{View}
-use Rattle.machine.specs.declared.Queue.{Queue}
-use Rattle.machine.proofs.Laws.Counting.{times-two, times-none}
+use Rattle.machine.proofs.Laws.Counting.{times-two}
 use Rattle.machine.proofs.Laws.Room.{actors8, view-32, made-view, standing-long, standing-at}
 use Rattle.rules.specs.Rule.{head, headView}
-use Rattle.rules.specs.PostCheck.{left}
-use Rattle.keeps.proofs.Index.{at-index}
-use Rattle.keeps.proofs.Jobs.{Job, job-at, jobsOf, jobs-kept, read-same, read-view, actor-same, one-job, views-long, message-same}
+use Rattle.keeps.proofs.Jobs.{Job, job-at, jobs-kept, read-view, actor-same, one-job, views-long, message-same}
 
 -- a view in phases 1 to 4 goes on, to phase 2 or further: what it says stays, and its links unless it is checked first
 module _ (m : Machine) (s : EverySlot m) (v : ℕ) (h : v < 32) (old : view m v .phase ≤ 4) (w : View) where

@@ -1,25 +1,22 @@
 -- The views, queues and messages of an unbroken machine are written: what has to be shown of each view that changes.
 -- Assumes nothing.
-use Prim.Native.Nat.{ℕ, zero, suc, _+_, _*_, _-_, _/_, _%_, _≤_, _<_}
+use Prim.Native.Nat.{ℕ, _-_, _≤_, _<_}
 use mathlib.Core.Path.{_≡_, refl, sym, ap, subst, _∙_}
 use mathlib.Core.Logic.{_≢_}
-use mathlib.Core.Bool.{Bool, true, false}
 use mathlib.Core.List.{List}
 use native.Mathlib.Omega.{arith}
 use native.Mathlib.Decide.{ℕ-discrete}
-use lib.ListN.{length, getD, set, length-set, List·getD-eq-default}
+use lib.ListN.{length, getD, set, length-set}
 use lib.Seq.{getD-set-same, getD-set-other}
 use Rattle.machine.specs.Words.{times}
-use Rattle.machine.specs.Slots.{number, place, linksPlace, noView, noQueue, noContents, noLinks, noMessage, noRepair, noEntry, statusNumber, standing}
-use Rattle.machine.specs.Slots.{view, queue, message, repair, entry, recordCopies, ackCopies, updateCopies, uackCopies, contents, causeLinks, viewlink}
+use Rattle.machine.specs.Slots.{number, noView, standing}
+use Rattle.machine.specs.Slots.{view, queue, message, repair, entry, recordCopies, ackCopies, contents, causeLinks}
 use Rattle.machine.specs.Writes.{withMade, withViews, withQueues, withMessages}
-use Rattle.machine.specs.EverySlot.{Sized, ViewSlot, QueueSlot, MessageSlot, RepairSlot, EntrySlot, CopySlot, ContentsSlot, LinksSlot, ViewlinkSlot, EverySlot}
+use Rattle.machine.specs.EverySlot.{Sized, ViewSlot, QueueSlot, MessageSlot, RepairSlot, EntrySlot, CopySlot, ContentsSlot, LinksSlot, EverySlot}
 use Rattle.machine.specs.declared.Machine.{Machine}
 use Rattle.machine.specs.declared.View.{View}
 use Rattle.machine.specs.declared.Queue.{Queue}
 use Rattle.machine.specs.declared.Message.{Message}
-use Rattle.machine.proofs.Laws.Tests.{not-both, by-test}
-use Rattle.keeps.proofs.Index.{at-index}
 
 -- all that is asked of a view v with the record w, beside its queue and message
 pub record Job (m : Machine) (made sender v : ℕ) (w : View) : Type 0 where
@@ -113,14 +110,14 @@ module _ (m : Machine) (s : EverySlot m) where
     message-same old now k hk =
         read-view (λ n x. n ≡ number k 1 → MessageSlot (m .stores) (m .made) (x .phase) k (message m k)) (number k 1)
         (λ e.
-          let g = s .messageAt k hk in
-          let q : view m (number k 1) .phase ≡ view m v .phase = ap (λ (n : ℕ). view m n .phase) (sym e) in
-          record {
-            keyMade = g .keyMade;
-            unreceived = λ f. let y = g .unreceived f in absurd (omega arith);
-            ownIn = g .ownIn;
-            sent = λ b y. absurd (omega arith);
-            ownBlank = g .ownBlank;
-            wordBlank = g .wordBlank;
-          })
+        let g = s .messageAt k hk in
+        let q : view m (number k 1) .phase ≡ view m v .phase = ap (λ (n : ℕ). view m n .phase) (sym e) in
+        record {
+          keyMade = g .keyMade;
+          unreceived = λ f. let y = g .unreceived f in absurd (omega arith);
+          ownIn = g .ownIn;
+          sent = λ b y. absurd (omega arith);
+          ownBlank = g .ownBlank;
+          wordBlank = g .wordBlank;
+        })
         (λ n e. s .messageAt k hk) refl

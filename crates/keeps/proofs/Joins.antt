@@ -1,15 +1,14 @@
 -- A view that is in phase 0 is made and joins its actor's queue, in phase 1: the queues, and the view's own slots. Assumes nothing.
-use Prim.Native.Nat.{ℕ, zero, suc, _+_, _*_, _-_, _/_, _%_, _≤_, _<_}
+use Prim.Native.Nat.{ℕ, _+_, _≤_, _<_}
 use mathlib.Core.Path.{_≡_, refl, sym, ap, subst, _∙_}
 use mathlib.Core.Logic.{_≢_}
-use mathlib.Core.Bool.{Bool, true, false}
 use mathlib.Core.List.{List}
 use native.Mathlib.Omega.{arith}
 use native.Mathlib.Decide.{decLt, ℕ-discrete}
-use lib.ListN.{length, getD, set, length-set}
+use lib.ListN.{getD, set}
 use Rattle.machine.specs.Words.{times}
-use Rattle.machine.specs.Slots.{number, noView, noQueue, view, queue, standing, home, contents}
-use Rattle.machine.specs.EverySlot.{SetupKind, none, some, ViewSlot, QueueSlot, RepairSlot, EntrySlot, CopySlot, ContentsSlot, LinksSlot, EverySlot}
+use Rattle.machine.specs.Slots.{noView, noQueue, view, queue, standing, home}
+use Rattle.machine.specs.EverySlot.{SetupKind, none, some, ViewSlot, QueueSlot, EverySlot}
 use Rattle.machine.specs.declared.Machine.{Machine}
 use Rattle.machine.specs.declared.View.{View}
 use Rattle.machine.specs.declared.Queue.{Queue}

@@ -1,23 +1,21 @@
 -- The laws of a step: from its condition's law, from the kinds that were walked, and by computation on setup M. Assumes nothing.
-use Prim.Native.Nat.{ℕ, zero, suc, _+_, _*_, _-_, _≤_, _<_}
+use Prim.Native.Nat.{ℕ, _+_, _≤_}
 use mathlib.Core.Path.{_≡_, refl, sym, ap, subst, _∙_}
 use mathlib.Core.Logic.{_≢_}
-use mathlib.Core.Bool.{Bool, true, false, _||_, not, true≢false}
-use mathlib.Core.List.{List, [], _∷_}
+use mathlib.Core.Bool.{true, false, true≢false}
+use mathlib.Core.List.{[], _∷_}
 use native.Mathlib.Omega.{arith}
-use lib.ListN.{length, getD, set, length-set}
+use lib.ListN.{getD, set, length-set}
 use lib.Seq.{getD-set-same, getD-set-other}
-use lib.Dec.{eqb, leb, ltb}
+use lib.Dec.{eqb}
 use borrow.Author.Tests.{eq-eqb, ne-eqb}
 use Rattle.machine.specs.Words.{pick, bit, allFrom, table}
-use Rattle.machine.specs.Slots.{number, place, linksPlace, noView, noContents, noLinks, home, isUp, message, view, contents, causeLinks, viewlink}
+use Rattle.machine.specs.Slots.{number, place, noView, noContents, home, isUp, view, contents, viewlink}
 use Rattle.machine.specs.Setup.{answered, legalActor, legalActors, legal, freshWith}
 use Rattle.machine.specs.Broken.{brokenOf}
-use Rattle.machine.specs.EverySlot.{EverySlot, LinksSlot}
 use Rattle.machine.specs.declared.Machine.{Machine}
 use Rattle.machine.specs.declared.View.{View}
 use Rattle.machine.specs.declared.Contents.{Contents}
-use Rattle.machine.specs.declared.Links.{Links}
 use Rattle.machine.specs.declared.Answered.{Answered}
 use Rattle.machine.proofs.Laws.{slots, only, fresh-unbroken}
 use Rattle.machine.proofs.Laws.Tests.{not-both}
@@ -28,7 +26,7 @@ use Rattle.rules.specs.Receive.{receivedView, receivedOf}
 use Rattle.rules.specs.PreCheck.{preChecked}
 use Rattle.rules.specs.SendRecord.{recordSent}
 use Rattle.rules.specs.Timeout.{timedOut}
-use Rattle.rules.specs.TakeRecord.{writtenContents, writtenLinks, writtenViewlink, recordTaken}
+use Rattle.rules.specs.TakeRecord.{writtenContents, writtenViewlink, recordTaken}
 use Rattle.rules.specs.TakeAck.{ackTaken}
 use Rattle.rules.specs.PostCheck.{postChecked}
 use Rattle.rules.specs.TakeRepair.{repairTaken}
@@ -42,14 +40,14 @@ use Rattle.rules.specs.Restart.{restartNo, restarted}
 use Rattle.rules.specs.Step.{numberOf, afterOf, ruleOf, stepOf}
 use Rattle.rules.specs.declared.Step.{Step}
 use Rattle.rules.specs.declared.Step.the-variants.{Send, Receive, PreCheck, SendRecord, Timeout, TakeRecord, TakeAck, PostCheck, TakeRepair, SendUpdate, TakeUpdate, TakeUack, Expire, Lose, Crash, Restart}
-use Rattle.keeps.specs.Taken.{SendTaken, ReceiveTaken, TakeRecordTaken, Taken}
-use Rattle.keeps.specs.Laws.{TakenExactly, TakenGives, RefusedGives, BrokenGives, TakenBy, AnswerZero, JointSame, madeBy, MadeCounts, NewKey, SendsNewKey, LinksSent, SendWritesLinks}
-use Rattle.keeps.specs.Laws.{LinkReceived, ReceiveWritesLink, LinksHeld, StoreWritesLinks, OneResult, marked, Program, RefuserOut, ConstantOut, PretenderOut, ResultsDiffer}
+use Rattle.keeps.specs.Laws.{TakenExactly, TakenGives, RefusedGives, BrokenGives, TakenBy, AnswerZero, JointSame, MadeCounts, SendsNewKey, SendWritesLinks}
+use Rattle.keeps.specs.Laws.{ReceiveWritesLink, StoreWritesLinks, OneResult, marked, Program, RefuserOut, ConstantOut, PretenderOut, ResultsDiffer}
 use Rattle.keeps.proofs.Index.{place-same}
 use Rattle.keeps.proofs.Conditions.{taken-when, when-taken}
 use Rattle.keeps.proofs.Joins.{home-in}
-use Rattle.keeps.proofs.Stores.{pick-case, store-8, key-16, number-32, written-held}
-use Rattle.keeps.proofs.Keeps.{step-case, every-kept}
+use Rattle.keeps.proofs.Cases.{pick-case, step-case}
+use Rattle.keeps.proofs.Stores.{store-8, key-16, number-32, written-held}
+use Rattle.keeps.proofs.Keeps.{every-kept}
 
 pub taken-exactly : TakenExactly
 taken-exactly m s = (taken-when m s, when-taken m s)
@@ -162,7 +160,7 @@ store-writes-links m p k r e c =
     let kept = every-kept m (TakeRecord p k r) s c in
     let w = writtenContents (contents m p v) (view m v) in
     let here : contents (recordTaken m p k r) p v .held ≡ true =
-        ap (λ (x : Contents). x .held) (place-same (m .contents) p v w noContents (s .sized .contents) hp hv) ∙ written-held m s p k hp hs hk (contents m p v) (view m v) in
+    ap (λ (x : Contents). x .held) (place-same (m .contents) p v w noContents (s .sized .contents) hp hv) ∙ written-held m s p k hp hs hk (contents m p v) (view m v) in
     let l = writtenViewlink (viewlink m p v) (view m v) in
     record {
       held = here;

@@ -1,3 +1,4 @@
+pub mod Cases
 pub mod Conditions
 pub mod Index
 pub mod Writes
@@ -11,7 +12,7 @@ pub mod PostCheck
 pub mod Joins
 pub mod Receive
 pub mod Send
-pub mod Keeps
 pub mod Changes
+pub mod Keeps
 pub mod Onward
 pub mod Laws

@@ -5,11 +5,9 @@ use mathlib.Core.Logic.{_≢_}
 use mathlib.Core.Bool.{Bool, true, false, _||_, not, true≢false}
 use mathlib.Core.List.{List}
 use native.Mathlib.Omega.{arith}
-use native.Mathlib.Decide.{ℕ-discrete}
 use lib.ListN.{length, getD, set, length-set}
-use lib.Seq.{getD-set-same, getD-set-other}
+use lib.Seq.{getD-set-other}
 use lib.Dec.{eqb}
-use Rattle.machine.specs.Words.{pick}
 use Rattle.machine.specs.Slots.{number, place, linksPlace, noView, noEntry, noRepair, noContents, noLinks, statusNumber, view, repair, entry, contents, causeLinks, viewlink}
 use Rattle.machine.specs.Writes.{withView, withEntry, withUpAt, withViewlink}
 use Rattle.machine.specs.EverySlot.{EverySlot}
@@ -28,18 +26,18 @@ use Rattle.machine.proofs.Laws.Says.{Says, eq-says, eq-splits, is-splits, zero-
 use Rattle.rules.specs.Rule.{head, headView, phased}
 use Rattle.rules.specs.Send.{sentView, awaitedView, sent}
 use Rattle.rules.specs.Receive.{receivedView, receivedOf}
-use Rattle.rules.specs.TakeRecord.{writtenContents, writtenLinks, writtenViewlink}
+use Rattle.rules.specs.TakeRecord.{writtenContents, writtenLinks}
 use Rattle.rules.specs.PostCheck.{askedRepair, postChecked}
 use Rattle.rules.specs.TakeRepair.{entered, repairedEntry, redirectedEntry, repairTaken}
 use Rattle.rules.specs.SendUpdate.{inStatus}
-use Rattle.rules.specs.declared.Step.{Step}
 use Rattle.keeps.specs.Taken.{HeadIn, SendTaken, ReceiveTaken, TakeRepairTaken}
-use Rattle.keeps.specs.Change.{HeadMove, isChecked, isSent, isMoved, isAcked, withFlight, FlightMove, withHeld, LinkMove, isWritten, isUpdated, StatusMove, isWaiting, isExpired, isDone}
+use Rattle.keeps.specs.Change.{HeadMove, isChecked, isSent, isMoved, isAcked, withFlight, withHeld, LinkMove, isWritten, isUpdated, StatusMove, isWaiting, isExpired, isDone}
 use Rattle.keeps.specs.Change.{Change, onUp, onSend, onReceive, onHead, onSettle, onFlight, onHeld, onViewlink, onStatus, onRepair}
 use Rattle.keeps.specs.Onward.{ViewOn, Onward, Resting, Closed, ClosedSays, StepOnward, ClosedStays}
-use Rattle.keeps.proofs.Index.{at-others, at-index, at-place, at-links-place}
+use Rattle.keeps.proofs.Index.{at-index, at-place, at-links-place}
 use Rattle.keeps.proofs.Heads.{head-32}
-use Rattle.keeps.proofs.Stores.{pick-case, store-8, key-16, number-32}
+use Rattle.keeps.proofs.Cases.{pick-case}
+use Rattle.keeps.proofs.Stores.{store-8, key-16, number-32}
 use Rattle.keeps.proofs.Changes.{change-kept, step-related, step-has}
 
 -- a record that stays as it is, and one change after another
@@ -115,40 +113,88 @@ head-on : (m : Machine) (a : ℕ) (w : View) → HeadMove m a w → ViewOn (head
 head-on m a w (isChecked h) =
     let e = h .headPhase in
     record {
-      actor = refl; phase = λ c n b. omega arith; word = λ b. refl; causes = λ b. refl; viewlink = λ b. refl; changed = λ b f. f;
-      links = λ b. absurd (omega arith); store = λ b. refl; unmoved = λ b. refl; settled = λ f. absurd (omega arith);
+      actor = refl;
+      phase = λ c n b. omega arith;
+      word = λ b. refl;
+      causes = λ b. refl;
+      viewlink = λ b. refl;
+      changed = λ b f. f;
+      links = λ b. absurd (omega arith);
+      store = λ b. refl;
+      unmoved = λ b. refl;
+      settled = λ f. absurd (omega arith);
     }
 head-on m a w (isSent h) =
     let e = h .headPhase in
     record {
-      actor = refl; phase = λ c n b. omega arith; word = λ b. refl; causes = λ b. refl; viewlink = λ b. refl; changed = λ b f. f;
-      links = λ b. refl; store = λ b. refl; unmoved = λ b. refl; settled = λ f. absurd (omega arith);
+      actor = refl;
+      phase = λ c n b. omega arith;
+      word = λ b. refl;
+      causes = λ b. refl;
+      viewlink = λ b. refl;
+      changed = λ b f. f;
+      links = λ b. refl;
+      store = λ b. refl;
+      unmoved = λ b. refl;
+      settled = λ f. absurd (omega arith);
     }
 head-on m a w (isMoved p t) =
     let e = t .head .headPhase in
     record {
-      actor = refl; phase = λ c n b. omega arith; word = λ b. refl; causes = λ b. refl; viewlink = λ b. refl; changed = λ b f. refl;
-      links = λ b. refl; store = λ b. absurd (omega arith); unmoved = λ b. absurd (omega arith); settled = λ f. absurd (omega arith);
+      actor = refl;
+      phase = λ c n b. omega arith;
+      word = λ b. refl;
+      causes = λ b. refl;
+      viewlink = λ b. refl;
+      changed = λ b f. refl;
+      links = λ b. refl;
+      store = λ b. absurd (omega arith);
+      unmoved = λ b. absurd (omega arith);
+      settled = λ f. absurd (omega arith);
     }
 head-on m a w (isAcked p h e c) =
     let f = h .headPhase in
     record {
-      actor = refl; phase = λ d n b. omega arith; word = λ b. refl; causes = λ b. refl; viewlink = λ b. refl; changed = λ b g. g;
-      links = λ b. refl; store = λ b. refl; unmoved = λ b. refl; settled = λ g. absurd (omega arith);
+      actor = refl;
+      phase = λ d n b. omega arith;
+      word = λ b. refl;
+      causes = λ b. refl;
+      viewlink = λ b. refl;
+      changed = λ b g. g;
+      links = λ b. refl;
+      store = λ b. refl;
+      unmoved = λ b. refl;
+      settled = λ g. absurd (omega arith);
     }
 
 settle-on : (w : View) → w .phase ≡ 4 → ViewOn w (phased 5 w)
 settle-on w e =
     record {
-      actor = refl; phase = λ c n b. omega arith; word = λ b. refl; causes = λ b. refl; viewlink = λ b. refl; changed = λ b f. f;
-      links = λ b. refl; store = λ b. refl; unmoved = λ b. refl; settled = λ f. absurd (omega arith);
+      actor = refl;
+      phase = λ c n b. omega arith;
+      word = λ b. refl;
+      causes = λ b. refl;
+      viewlink = λ b. refl;
+      changed = λ b f. f;
+      links = λ b. refl;
+      store = λ b. refl;
+      unmoved = λ b. refl;
+      settled = λ f. absurd (omega arith);
     }
 
 receive-on : (m : Machine) (k : ℕ) → view m (number k 1) .phase ≡ 0 → ViewOn (view m (number k 1)) (receivedView m k)
 receive-on m k e =
     record {
-      actor = refl; phase = λ c n b. omega arith; word = λ b. absurd (omega arith); causes = λ b. absurd (omega arith); viewlink = λ b. absurd (omega arith);
-      changed = λ b. absurd (omega arith); links = λ b. absurd (omega arith); store = λ b. absurd (omega arith); unmoved = λ b. absurd (omega arith); settled = λ f. absurd (omega arith);
+      actor = refl;
+      phase = λ c n b. omega arith;
+      word = λ b. absurd (omega arith);
+      causes = λ b. absurd (omega arith);
+      viewlink = λ b. absurd (omega arith);
+      changed = λ b. absurd (omega arith);
+      links = λ b. absurd (omega arith);
+      store = λ b. absurd (omega arith);
+      unmoved = λ b. absurd (omega arith);
+      settled = λ f. absurd (omega arith);
     }
 
 -- of the arrays that speak of the past only the views are written, and each goes on
@@ -297,7 +343,7 @@ repair-onward m s k r c =
     let long = s .sized .entries in
     let a = entry-onward m long v hv e₁ (λ h. omega arith) in
     let b = entry-onward m₁ (length-set (m .entries) v e₁ ∙ long) o ho e₂
-        (λ h. pick-case (λ (x : Entry). 1 ≤ statusNumber (x .status)) (entered (entry m o)) _ _ (λ f. omega arith) (λ f. subst (λ (x : Entry). 1 ≤ statusNumber (x .status)) there h)) in
+    (λ h. pick-case (λ (x : Entry). 1 ≤ statusNumber (x .status)) (entered (entry m o)) _ _ (λ f. omega arith) (λ f. subst (λ (x : Entry). 1 ≤ statusNumber (x .status)) there h)) in
     let d = after m m₁ (withEntry m₁ o e₂) a b in
     record {
       stores = refl;

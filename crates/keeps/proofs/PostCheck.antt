@@ -1,30 +1,29 @@
 -- Step 8 keeps every slot: the head leaves its queue in phase 5, with a repair if it has changed. Assumes nothing.
-use Prim.Native.Nat.{ℕ, zero, suc, _+_, _*_, _-_, _/_, _%_, _≤_, _<_}
+use Prim.Native.Nat.{ℕ, _+_, _-_, _≤_, _<_}
 use mathlib.Core.Path.{_≡_, refl, sym, ap, subst, _∙_}
 use mathlib.Core.Logic.{_≢_}
-use mathlib.Core.Bool.{Bool, true, false, true≢false}
+use mathlib.Core.Bool.{true≢false}
 use mathlib.Core.List.{List}
 use native.Mathlib.Omega.{arith}
-use native.Mathlib.Decide.{decLt, ℕ-discrete}
-use lib.ListN.{length, getD, set, length-set}
+use native.Mathlib.Decide.{decLt}
+use lib.ListN.{getD, set, length-set}
 use lib.Seq.{getD-set-same, getD-set-other}
-use Rattle.machine.specs.Words.{pick, times}
-use Rattle.machine.specs.Slots.{number, noView, noQueue, view, queue, standing, repair}
+use Rattle.machine.specs.Words.{times}
+use Rattle.machine.specs.Slots.{noView, noQueue, view, queue, standing, repair}
 use Rattle.machine.specs.Writes.{withView, withQueue}
-use Rattle.machine.specs.EverySlot.{ViewSlot, QueueSlot, RepairSlot, EverySlot}
+use Rattle.machine.specs.EverySlot.{QueueSlot, RepairSlot, EverySlot}
 use Rattle.machine.specs.declared.Machine.{Machine}
 use Rattle.machine.specs.declared.View.{View}
 use Rattle.machine.specs.declared.Queue.{Queue}
-use Rattle.machine.specs.declared.Repair.{Repair}
 use Rattle.machine.proofs.Laws.Room.{actors8, made-view}
 use Rattle.rules.specs.Rule.{head, headView, phased}
 use Rattle.rules.specs.PostCheck.{askedRepair, left, postChecked}
 use Rattle.keeps.specs.Taken.{HeadIn}
 use Rattle.keeps.proofs.Index.{at-others}
 use Rattle.keeps.proofs.Writes.{repair-write}
-use Rattle.keeps.proofs.Jobs.{jobs-kept, read-view, actor-same, one-job, views-long, message-same}
-use Rattle.keeps.proofs.Heads.{moved-job, actor-8, head-own, head-from, head-to, head-32, head-made, head-elsewhere, head-behind}
-use Rattle.keeps.proofs.Stores.{pick-case}
+use Rattle.keeps.proofs.Jobs.{jobs-kept, read-view, one-job, views-long, message-same}
+use Rattle.keeps.proofs.Heads.{moved-job, actor-8, head-from, head-to, head-32, head-made, head-elsewhere, head-behind}
+use Rattle.keeps.proofs.Cases.{pick-case}
 use Rattle.keeps.proofs.Actors.{phased-slot}
 use Rattle.keeps.proofs.Queues.{left-long, left-at, left-end, left-times}
 
@@ -61,8 +60,8 @@ module _ (m : Machine) (s : EverySlot m) (a : ℕ) (ha : a < m .actors) (some : 
   left-blank i hi h =
       let q = s .queueAt a (actor-8 m s a ha some) in
       elim (decLt i 15) [
-        yes b ↦ left-at (queue m a) (q .long) i b ∙ q .placeBlank (1 + i) (omega arith) (omega arith)
-      | no b ↦ (let e : i ≡ 15 = omega arith in ap (λ (j : ℕ). getD (left (queue m a) .views) j 0) e ∙ left-end (queue m a) (q .long))
+        | yes b ↦ left-at (queue m a) (q .long) i b ∙ q .placeBlank (1 + i) (omega arith) (omega arith)
+        | no b ↦ (let e : i ≡ 15 = omega arith in ap (λ (j : ℕ). getD (left (queue m a) .views) j 0) e ∙ left-end (queue m a) (q .long))
       ]
 
   left-slot : QueueSlot (m .actors) views a (left (queue m a))
@@ -103,13 +102,13 @@ module _ (m : Machine) (s : EverySlot m) (a : ℕ) (ha : a < m .actors) (some : 
       read-view m s (head m a) v-32 w refl (λ n x. n < 32 → 1 ≤ x .phase → x .phase ≤ 4 → times n (standing (getD queues (x .actor) noQueue)) ≡ 1) u
       (λ b c d. absurd (omega arith))
       (λ n b c d.
-        let q = s .queueAt a (actor-8 m s a ha some) in
-        let o = s .onceAt u b c d in
-        let t = actors8 m s in
-        let i = s .viewAt u b .actorIn (made-view m s u c) in
-        at-others (m .queues) 8 a (left (queue m a)) noQueue (s .sized .queues) (actor-8 m s a ha some) (λ e x. e ≡ view m u .actor → times u (standing x) ≡ 1)
-        (λ e. left-times (queue m a) (q .long) u some (q .len16) (λ f. n (sym f)) ∙ subst (λ (k : ℕ). times u (standing (queue m k)) ≡ 1) (sym e) o)
-        (λ k hk g e. subst (λ (j : ℕ). times u (standing (queue m j)) ≡ 1) (sym e) o) (view m u .actor) (omega arith) refl)
+      let q = s .queueAt a (actor-8 m s a ha some) in
+      let o = s .onceAt u b c d in
+      let t = actors8 m s in
+      let i = s .viewAt u b .actorIn (made-view m s u c) in
+      at-others (m .queues) 8 a (left (queue m a)) noQueue (s .sized .queues) (actor-8 m s a ha some) (λ e x. e ≡ view m u .actor → times u (standing x) ≡ 1)
+      (λ e. left-times (queue m a) (q .long) u some (q .len16) (λ f. n (sym f)) ∙ subst (λ (k : ℕ). times u (standing (queue m k)) ≡ 1) (sym e) o)
+      (λ k hk g e. subst (λ (j : ℕ). times u (standing (queue m j)) ≡ 1) (sym e) o) (view m u .actor) (omega arith) refl)
       hu
 
   left-kept : EverySlot (withQueue (withView m (head m a) w) a (left (queue m a)))

@@ -1,11 +1,9 @@
 -- A queue that a view has joined, and one that its head has left: what stands where, and how often. Assumes nothing.
-use Prim.Native.Nat.{ℕ, zero, suc, _+_, _*_, _-_, _≤_, _<_}
-use mathlib.Core.Path.{_≡_, refl, sym, ap, subst, _∙_}
+use Prim.Native.Nat.{ℕ, suc, _+_, _-_, _≤_, _<_}
+use mathlib.Core.Path.{_≡_, refl, sym, ap, _∙_}
 use mathlib.Core.Logic.{_≢_}
-use mathlib.Core.Bool.{Bool, true, false}
 use mathlib.Core.List.{List, [], _∷_, _++_}
 use native.Mathlib.Omega.{arith}
-use native.Mathlib.Decide.{decLt}
 use lib.ListN.{length, getD, set, take, drop, length-set, length-append, length-drop, List·getD-append}
 use lib.Seq.{getD-drop, getD-append-seam, getD-set-same, getD-set-other, take-append-le, take-suc-set}
 use lib.Dec.{eqb}

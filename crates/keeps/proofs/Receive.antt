@@ -1,25 +1,24 @@
 -- Step 2 keeps every slot: the receiver's record joins the queue, and its message is no longer in flight. Assumes nothing.
-use Prim.Native.Nat.{ℕ, zero, suc, _+_, _*_, _-_, _/_, _%_, _≤_, _<_}
+use Prim.Native.Nat.{ℕ, _-_, _≤_, _<_}
 use mathlib.Core.Path.{_≡_, refl, sym, ap, subst, _∙_}
 use mathlib.Core.Logic.{_≢_}
-use mathlib.Core.Bool.{Bool, true, false, false≢true}
+use mathlib.Core.Bool.{false≢true}
 use mathlib.Core.List.{List}
 use native.Mathlib.Omega.{arith}
-use native.Mathlib.Decide.{ℕ-discrete}
-use lib.ListN.{length, getD, set, length-set, getD-replicate}
-use lib.Seq.{getD-set-same, getD-set-other}
+use lib.ListN.{getD, set, length-set, getD-replicate}
+use lib.Seq.{getD-set-other}
 use Rattle.machine.specs.Slots.{number, noView, noMessage, view, queue, message}
 use Rattle.machine.specs.EverySlot.{ViewSlot, MessageSlot, EverySlot}
 use Rattle.machine.specs.declared.Machine.{Machine}
 use Rattle.machine.specs.declared.View.{View}
 use Rattle.machine.specs.declared.Message.{Message}
-use Rattle.machine.proofs.Laws.Room.{actors8, bounds-of}
+use Rattle.machine.proofs.Laws.Room.{bounds-of}
 use Rattle.machine.proofs.Laws.Bits.{no-bit}
 use Rattle.rules.specs.Send.{joined}
 use Rattle.rules.specs.Receive.{receivedView, receivedOf}
 use Rattle.keeps.specs.Taken.{ReceiveTaken}
 use Rattle.keeps.proofs.Index.{at-others}
-use Rattle.keeps.proofs.Jobs.{jobs-kept, read-same, read-view, one-job, views-long}
+use Rattle.keeps.proofs.Jobs.{jobs-kept, read-same, one-job, views-long}
 use Rattle.keeps.proofs.Joins.{home-in, unready-job, join-queued, join-once}
 use Rattle.keeps.proofs.Stores.{number-32, key-16}
 
@@ -97,7 +96,7 @@ module _ (m : Machine) (s : EverySlot m) (k : ℕ) (hk : k < m .made) (old : vie
       let actor : getD views v noView .actor ≡ a = ap (λ (x : View). x .actor) here in
       let first : getD views v noView .phase ≡ 1 = ap (λ (x : View). x .phase) here in
       let same : (u : ℕ) → 1 ≤ view m u .phase → getD views u noView ≡ view m u =
-          λ u h. others u (λ e. let z = subst (λ (n : ℕ). 1 ≤ view m n .phase) e h in absurd (omega arith)) in
+      λ u h. others u (λ e. let z = subst (λ (n : ℕ). 1 ≤ view m n .phase) e h in absurd (omega arith)) in
       let only : (u : ℕ) → u ≢ v → 1 ≤ getD views u noView .phase → getD views u noView ≡ view m u = λ u n h. others u n in
       jobs-kept m s (m .made) views (set (m .queues) a (joined (queue m a) v)) messages
       (views-long m s v v-32 w refl) (length-set (m .queues) a (joined (queue m a) v) ∙ s .sized .queues) (length-set (m .messages) k noMessage ∙ s .sized .messages) (s .made16) (omega arith)

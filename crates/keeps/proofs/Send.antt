@@ -1,19 +1,18 @@
 -- Step 1 keeps every slot: the sender's record joins the queue, the receiver's waits, and the message is in flight. Assumes nothing.
-use Prim.Native.Nat.{ℕ, zero, suc, _+_, _*_, _-_, _/_, _%_, _≤_, _<_}
+use Prim.Native.Nat.{ℕ, _+_, _-_, _≤_, _<_}
 use mathlib.Core.Path.{_≡_, refl, sym, ap, subst, _∙_}
 use mathlib.Core.Logic.{_≢_}
-use mathlib.Core.Bool.{Bool, true, false, true≢false}
+use mathlib.Core.Bool.{true, true≢false}
 use mathlib.Core.List.{List}
 use native.Mathlib.Omega.{arith}
 use native.Mathlib.Decide.{ℕ-discrete}
 use lib.ListN.{length, getD, set, length-set, getD-replicate}
 use lib.Seq.{getD-set-same, getD-set-other}
-use Rattle.machine.specs.Words.{pick, bit}
+use Rattle.machine.specs.Words.{bit}
 use Rattle.machine.specs.Slots.{number, noView, noMessage, view, queue, message, home}
 use Rattle.machine.specs.EverySlot.{ViewSlot, MessageSlot, EverySlot}
 use Rattle.machine.specs.declared.Machine.{Machine}
 use Rattle.machine.specs.declared.View.{View}
-use Rattle.machine.specs.declared.Queue.{Queue}
 use Rattle.machine.specs.declared.Message.{Message}
 use Rattle.machine.proofs.Laws.Tests.{not-both}
 use Rattle.machine.proofs.Laws.Every.{length-table, table-at}
@@ -24,7 +23,7 @@ use Rattle.keeps.specs.Taken.{SendTaken}
 use Rattle.keeps.proofs.Index.{at-others}
 use Rattle.keeps.proofs.Jobs.{Job, job-at, jobs-kept}
 use Rattle.keeps.proofs.Joins.{home-in, unready-job, join-queued, join-once}
-use Rattle.keeps.proofs.Stores.{pick-case}
+use Rattle.keeps.proofs.Cases.{pick-case}
 
 module _ (m : Machine) (s : EverySlot m) (from to own word causes : ℕ) (c : SendTaken m from to own causes) where
   abbrev k : ℕ
@@ -188,16 +187,16 @@ module _ (m : Machine) (s : EverySlot m) (from to own word causes : ℕ) (c : Se
         wordBlank = λ e. absurd (true≢false e);
       })
       (λ j h n.
-        let g = s .messageAt j h in
-        subst (λ (x : View). MessageSlot (m .stores) (k + 1) (x .phase) j (message m j)) (sym (others (number j 1) (omega arith) (λ e. n (omega arith))))
-        (record {
-          keyMade = λ e. let i = g .keyMade e in omega arith;
-          unreceived = g .unreceived;
-          ownIn = g .ownIn;
-          sent = λ i z. g .sent (omega arith) z;
-          ownBlank = g .ownBlank;
-          wordBlank = g .wordBlank;
-        }))
+      let g = s .messageAt j h in
+      subst (λ (x : View). MessageSlot (m .stores) (k + 1) (x .phase) j (message m j)) (sym (others (number j 1) (omega arith) (λ e. n (omega arith))))
+      (record {
+        keyMade = λ e. let i = g .keyMade e in omega arith;
+        unreceived = g .unreceived;
+        ownIn = g .ownIn;
+        sent = λ i z. g .sent (omega arith) z;
+        ownBlank = g .ownBlank;
+        wordBlank = g .wordBlank;
+      }))
 
   pub send-kept : EverySlot (sent m from to own word causes)
   unfolding sent
@@ -209,10 +208,10 @@ module _ (m : Machine) (s : EverySlot m) (from to own word causes : ℕ) (c : Se
       let actor : getD views (number k 0) noView .actor ≡ from = ap (λ (x : View). x .actor) at-sender in
       let first : getD views (number k 0) noView .phase ≡ 1 = ap (λ (x : View). x .phase) at-sender in
       let apart : (u r : ℕ) → r < 2 → 1 ≤ view m u .phase → u ≢ number k r =
-          λ u r hr h e. let z = subst (λ (n : ℕ). 1 ≤ view m n .phase) e h in let y = unmade r hr in absurd (omega arith) in
+      λ u r hr h e. let z = subst (λ (n : ℕ). 1 ≤ view m n .phase) e h in let y = unmade r hr in absurd (omega arith) in
       let same : (u : ℕ) → 1 ≤ view m u .phase → getD views u noView ≡ view m u = λ u h. others u (apart u 0 (omega arith) h) (apart u 1 (omega arith) h) in
       let only : (u : ℕ) → u ≢ number k 0 → 1 ≤ getD views u noView .phase → getD views u noView ≡ view m u =
-          λ u n h. others u n (λ e. let z = subst (λ (i : ℕ). 1 ≤ getD views i noView .phase) e h in let y = ap (λ (x : View). x .phase) at-receiver in absurd (omega arith)) in
+      λ u n h. others u n (λ e. let z = subst (λ (i : ℕ). 1 ≤ getD views i noView .phase) e h in let y = ap (λ (x : View). x .phase) at-receiver in absurd (omega arith)) in
       jobs-kept m s (k + 1) views (set (m .queues) from (joined (queue m from) (number k 0))) messages
       views-long (length-set (m .queues) from (joined (queue m from) (number k 0)) ∙ s .sized .queues) (length-set (m .messages) k flying ∙ s .sized .messages) (omega arith) (omega arith)
       jobs

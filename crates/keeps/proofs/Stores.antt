@@ -1,39 +1,27 @@
--- Steps 6, 14, 15 and 16 keep every slot: a store takes a record, a copy is lost, a store crashes and restarts. Assumes nothing.
+-- What a store holds of a view once it has taken its record, and the copies in flight: each slot is as it must be. Assumes nothing.
 use Prim.Native.Nat.{ℕ, zero, suc, _+_, _*_, _-_, _≤_, _<_}
 use mathlib.Core.Path.{_≡_, refl, sym, ap, subst, _∙_}
-use mathlib.Core.Logic.{_≢_}
-use mathlib.Core.Bool.{Bool, true, false, _||_, not, false≢true, true≢false}
-use mathlib.Core.List.{List}
+use mathlib.Core.Bool.{Bool, true, false, _||_, true≢false}
 use native.Mathlib.Omega.{arith}
-use native.Mathlib.Decide.{decLt}
-use lib.ListN.{length, getD, set}
-use lib.Seq.{getD-set-same, getD-set-other}
+use lib.ListN.{length, getD}
+use lib.Seq.{getD-set-other}
 use lib.Dec.{eqb, ltb}
-use borrow.Author.Tests.{eqb-true, eqb-false, ltb-true, ltb-false}
+use borrow.Author.Tests.{ltb-true}
 use Rattle.machine.specs.Words.{pick}
-use Rattle.machine.specs.Slots.{number, place, linksPlace, noContents, noLinks, view, contents, causeLinks, viewlink, recordCopies, ackCopies, updateCopies, uackCopies}
-use Rattle.machine.specs.Writes.{withRecordCopies, withAckCopies, withUpdateCopies, withUackCopies, withContentsAt, withCauseLinks}
+use Rattle.machine.specs.Slots.{number, place, linksPlace, noContents, noLinks, view, contents, causeLinks, viewlink}
 use Rattle.machine.specs.EverySlot.{CopySlot, ContentsSlot, LinksSlot, ViewlinkSlot, EverySlot}
 use Rattle.machine.specs.declared.Machine.{Machine}
 use Rattle.machine.specs.declared.View.{View}
 use Rattle.machine.specs.declared.Contents.{Contents}
 use Rattle.machine.specs.declared.Links.{Links}
-use Rattle.machine.proofs.Laws.Tests.{not-both, by-test}
+use Rattle.machine.proofs.Laws.Tests.{not-both}
 use Rattle.machine.proofs.Laws.Room.{stores8}
 use Rattle.rules.specs.Rule.{more}
-use Rattle.rules.specs.Crash.{crashed}
-use Rattle.rules.specs.Restart.{restarted}
-use Rattle.rules.specs.Lose.{lost}
-use Rattle.rules.specs.TakeRecord.{writtenContents, writtenLinks, writtenViewlink, recordTaken}
-use Rattle.keeps.specs.Taken.{PlaceOf, CrashTaken, RestartTaken, LoseTaken, TakeRecordTaken}
+use Rattle.rules.specs.TakeRecord.{writtenContents, writtenLinks, writtenViewlink}
 use Rattle.keeps.specs.Change.{withHeld}
+use Rattle.keeps.proofs.Cases.{pick-case}
 use Rattle.keeps.proofs.Index.{place-same}
-use Rattle.keeps.proofs.Writes.{up-write, record-write, ack-write, update-write, uack-write, viewlink-write, held-write}
-
--- by cases on a choice
-pub pick-case : {A : Type 0} (P : A → Type 0) (c : Bool) (x y : A) → (c ≡ true → P x) → (c ≡ false → P y) → P (pick c x y)
-pick-case P true x y f g = f refl
-pick-case P false x y f g = g refl
+use Rattle.keeps.proofs.Writes.{held-write}
 
 -- one copy fewer, one copy more
 pub fewer-copies : {stores p least at n : ℕ} → CopySlot stores p least at n → CopySlot stores p least at (n - 1)
@@ -57,34 +45,6 @@ module _ (m : Machine) (s : EverySlot m) where
 
   pub number-32 : (k r : ℕ) → k < m .made → r < 2 → number k r < 32
   number-32 k r hk hr = let t = s .made16 in omega arith
-
-  -- 15, 16
-  pub crash-kept : (p : ℕ) → CrashTaken m p → EverySlot (crashed m p)
-  unfolding crashed
-  crash-kept p c = up-write m s p false (store-8 p (c .storeIn)) (λ h. refl)
-
-  pub restart-kept : (p : ℕ) → RestartTaken m p → EverySlot (restarted m p)
-  unfolding restarted
-  restart-kept p c = let h = c .storeIn in up-write m s p true (store-8 p h) (λ b. absurd (omega arith))
-
-  -- 14
-  module _ (p v : ℕ) (hp : p < 8) (hv : v < 32) where
-    abbrev pub fewerOf : Bool → Bool → Bool → Machine
-    fewerOf a b c =
-        let n = pick a (recordCopies m p v) (pick b (ackCopies m p v) (pick c (updateCopies m p v) (uackCopies m p v))) - 1 in
-        pick a (withRecordCopies m p v n) (pick b (withAckCopies m p v n) (pick c (withUpdateCopies m p v n) (withUackCopies m p v n)))
-
-    lose-one : (a b c : Bool) → EverySlot (fewerOf a b c)
-    lose-one true b c = record-write m s p v hp hv (recordCopies m p v - 1) (fewer-copies (s .recordAt p v hp hv))
-    lose-one false true c = ack-write m s p v hp hv (ackCopies m p v - 1) (fewer-copies (s .ackAt p v hp hv))
-    lose-one false false true = update-write m s p v hp hv (updateCopies m p v - 1) (fewer-copies (s .updateAt p v hp hv))
-    lose-one false false false = uack-write m s p v hp hv (uackCopies m p v - 1) (fewer-copies (s .uackAt p v hp hv))
-
-  pub lose-kept : (what p k r : ℕ) → LoseTaken m what p k r → EverySlot (lost m what p k r)
-  unfolding lost
-  lose-kept what p k r c =
-      let o = c .place in
-      lose-one p (number k r) (store-8 p (o .storeIn)) (number-32 k r (o .keyIn) (o .roleIn)) (eqb what 0) (eqb what 1) (eqb what 2)
 
   -- 6: what the store then holds
   module _ (p k : ℕ) (hp : p < 8) (inside : p < m .stores) (hk : k < m .made) where
@@ -115,13 +75,13 @@ module _ (m : Machine) (s : EverySlot m) where
     held-links zero hr =
         let c = writtenContents (contents m p (number k 0)) (view m (number k 0)) in
         let here : contents (withHeld m p k 0) p (number k 0) .held ≡ true =
-            ap (λ (x : Contents). x .held) (place-same (m .contents) p (number k 0) c noContents (s .sized .contents) hp (number-32 k 0 hk (omega arith))) ∙ written-held (contents m p (number k 0)) (view m (number k 0)) in
+        ap (λ (x : Contents). x .held) (place-same (m .contents) p (number k 0) c noContents (s .sized .contents) hp (number-32 k 0 hk (omega arith))) ∙ written-held (contents m p (number k 0)) (view m (number k 0)) in
         written-links (contents (withHeld m p k 0) p (number k 0) .held) here (contents m p (number k 0) .held) (view m (number k 0)) (getD (m .links) (linksPlace p k) noLinks)
         (s .viewAt (number k 0) (number-32 k 0 hk (omega arith)) .linksLong) (s .linksAt p k hp (key-16 k hk))
     held-links (suc zero) hr =
         let c = writtenContents (contents m p (number k 1)) (view m (number k 1)) in
         let there : contents (withHeld m p k 1) p (number k 0) ≡ contents m p (number k 0) =
-            getD-set-other (m .contents) (place p (number k 1)) (place p (number k 0)) c noContents (omega arith) in
+        getD-set-other (m .contents) (place p (number k 1)) (place p (number k 0)) c noContents (omega arith) in
         let l = getD (m .links) (linksPlace p k) noLinks in
         let stay : writtenLinks 1 (contents m p (number k 1)) (view m (number k 1)) l ≡ l = pick-case (λ (x : Links). x ≡ l) (contents m p (number k 1) .held || true) l _ (λ e. refl) (λ e. or-false (contents m p (number k 1) .held) e) in
         subst (λ (x : Links). LinksSlot (contents (withHeld m p k 1) p (number k 0) .held) (view m (number k 0) .links) (x .to)) (sym stay)
@@ -142,21 +102,3 @@ module _ (m : Machine) (s : EverySlot m) where
         let in-stores = s .viewAt v hv .viewlinkIn (omega arith) in
         pick-case (ViewlinkSlot (m .stores) (m .made) p v) (eqb (viewlink m p v) 0) _ _
         (λ e. record { linkIn = omega arith; atStore = λ h. inside; atView = λ h. made }) (λ e. s .viewlinkAt p v hp hv)
-
-pub take-record-kept : (m : Machine) → EverySlot m → (p k r : ℕ) → TakeRecordTaken m p k r → EverySlot (recordTaken m p k r)
-unfolding recordTaken
-take-record-kept m s p k r c =
-    let o = c .place in
-    let hs = o .storeIn in
-    let hk = o .keyIn in
-    let hr = o .roleIn in
-    let hp = store-8 m s p hs in
-    let v = number k r in
-    let hv = number-32 m s k r hk hr in
-    let ready = s .recordAt p v hp hv .atView (c .copy) in
-    let m₁ = withRecordCopies m p v (recordCopies m p v - 1) in
-    let s₁ = record-write m s p v hp hv (recordCopies m p v - 1) (fewer-copies (s .recordAt p v hp hv)) in
-    let m₂ = withAckCopies m₁ p v (more (ackCopies m p v)) in
-    let s₂ = ack-write m₁ s₁ p v hp hv (more (ackCopies m p v)) (more-copies (s .ackAt p v hp hv) hs ready) in
-    let s₃ = holds m₂ s₂ p k hp hs hk r hr ready in
-    viewlink-write (withHeld m₂ p k r) s₃ p v hp hv (writtenViewlink (viewlink m p v) (view m v)) (linked m s p k hp hs hk v hv (omega arith) ready)

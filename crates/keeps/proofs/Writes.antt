@@ -1,24 +1,20 @@
 -- A slot of an unbroken machine is written: if what is written is as its slot must be, every slot is. Assumes nothing.
-use Prim.Native.Nat.{ℕ, zero, suc, _+_, _*_, _-_, _≤_, _<_}
-use mathlib.Core.Path.{_≡_, refl, sym, ap, subst, _∙_}
-use mathlib.Core.Logic.{_≢_}
-use mathlib.Core.Bool.{Bool, true, false}
-use mathlib.Core.List.{List}
+use Prim.Native.Nat.{ℕ, _≤_, _<_}
+use mathlib.Core.Path.{_≡_, sym, subst}
+use mathlib.Core.Bool.{Bool, false}
 use native.Mathlib.Omega.{arith}
-use lib.ListN.{length, getD, set, length-set}
+use lib.ListN.{length-set}
 use lib.Seq.{getD-set-other}
-use Rattle.machine.specs.Words.{times}
-use Rattle.machine.specs.Slots.{number, place, linksPlace, noView, noQueue, noContents, noLinks, noMessage, noRepair, noEntry, statusNumber, standing}
-use Rattle.machine.specs.Slots.{view, queue, message, repair, entry, recordCopies, ackCopies, updateCopies, uackCopies, contents, causeLinks, viewlink}
+use Rattle.machine.specs.Slots.{number, place, noContents, noLinks, noRepair, noEntry, statusNumber}
+use Rattle.machine.specs.Slots.{view, entry, updateCopies, uackCopies, contents, causeLinks}
 use Rattle.machine.specs.Writes.{withUpAt, withRecordCopies, withAckCopies, withUpdateCopies, withUackCopies, withViewlink, withRepair, withEntry, withContentsAt, withCauseLinks}
-use Rattle.machine.specs.EverySlot.{Sized, ViewSlot, QueueSlot, MessageSlot, RepairSlot, EntrySlot, CopySlot, ContentsSlot, LinksSlot, ViewlinkSlot, EverySlot}
+use Rattle.machine.specs.EverySlot.{Sized, RepairSlot, EntrySlot, CopySlot, ContentsSlot, LinksSlot, ViewlinkSlot, EverySlot}
 use Rattle.machine.specs.declared.Machine.{Machine}
-use Rattle.machine.specs.declared.View.{View}
 use Rattle.machine.specs.declared.Repair.{Repair}
 use Rattle.machine.specs.declared.Entry.{Entry}
 use Rattle.machine.specs.declared.Contents.{Contents}
 use Rattle.machine.specs.declared.Links.{Links}
-use Rattle.keeps.proofs.Index.{at-index, at-place, at-links-place, place-view, place-store}
+use Rattle.keeps.proofs.Index.{at-index, at-place, at-links-place}
 
 module _ (m : Machine) (s : EverySlot m) where
   pub up-write : (p : ℕ) (b : Bool) → p < 8 → (m .stores ≤ p → b ≡ false) → EverySlot (withUpAt m p b)
@@ -71,9 +67,9 @@ module _ (m : Machine) (s : EverySlot m) where
         let z : Sized (withEntry m v e) = search (length-set, s .sized) in
         let u = at-index (m .entries) 32 v e noEntry (s .sized .entries) hv (λ w. EntrySlot (m .stores) (view m w .phase)) c (s .entryAt) in
         let x = at-index (m .entries) 32 v e noEntry (s .sized .entries) hv (λ w d. (p : ℕ) → p < 8 → CopySlot (m .stores) p 1 (statusNumber (d .status)) (updateCopies m p w))
-            (λ p hp. let o = s .updateAt p v hp hv in record { copies15 = o .copies15; atStore = o .atStore; atView = λ h. f (o .atView h) }) (λ w hw p hp. s .updateAt p w hp hw) in
+        (λ p hp. let o = s .updateAt p v hp hv in record { copies15 = o .copies15; atStore = o .atStore; atView = λ h. f (o .atView h) }) (λ w hw p hp. s .updateAt p w hp hw) in
         let y = at-index (m .entries) 32 v e noEntry (s .sized .entries) hv (λ w d. (p : ℕ) → p < 8 → CopySlot (m .stores) p 1 (statusNumber (d .status)) (uackCopies m p w))
-            (λ p hp. let o = s .uackAt p v hp hv in record { copies15 = o .copies15; atStore = o .atStore; atView = λ h. f (o .atView h) }) (λ w hw p hp. s .uackAt p w hp hw) in
+        (λ p hp. let o = s .uackAt p v hp hv in record { copies15 = o .copies15; atStore = o .atStore; atView = λ h. f (o .atView h) }) (λ w hw p hp. s .uackAt p w hp hw) in
         let x′ : (p w : ℕ) → p < 8 → w < 32 → CopySlot (m .stores) p 1 (statusNumber (entry (withEntry m v e) w .status)) (updateCopies m p w) = λ p w hp hw. x w hw p hp in
         let y′ : (p w : ℕ) → p < 8 → w < 32 → CopySlot (m .stores) p 1 (statusNumber (entry (withEntry m v e) w .status)) (uackCopies m p w) = λ p w hp hw. y w hw p hp in
         search
@@ -88,8 +84,8 @@ module _ (m : Machine) (s : EverySlot m) where
         let z : Sized held = search (length-set, s .sized) in
         let u = at-place (m .contents) p (number k r) c noContents (s .sized .contents) hp (omega arith) (λ q w. ContentsSlot (m .stores) q (view m w)) o (s .contentsAt) in
         let far : (q j : ℕ) → q < 8 → j < 16 → (q ≡ p → j ≡ k → ⊥) → contents held q (number j 0) ≡ contents m q (number j 0) =
-            λ q j hq hj n. getD-set-other (m .contents) (place p (number k r)) (place q (number j 0)) c noContents (λ e. n (omega arith) (omega arith)) in
+        λ q j hq hj n. getD-set-other (m .contents) (place p (number k r)) (place q (number j 0)) c noContents (λ e. n (omega arith) (omega arith)) in
         let x : (q j : ℕ) → q < 8 → j < 16 → LinksSlot (contents held q (number j 0) .held) (view m (number j 0) .links) (causeLinks held q j) =
-            at-links-place (m .links) p k l noLinks (s .sized .links) hp hk (λ q j t. LinksSlot (contents held q (number j 0) .held) (view m (number j 0) .links) (t .to)) d
-            (λ q j hq hj n. subst (λ (t : Contents). LinksSlot (t .held) (view m (number j 0) .links) (causeLinks m q j)) (sym (far q j hq hj n)) (s .linksAt q j hq hj)) in
+        at-links-place (m .links) p k l noLinks (s .sized .links) hp hk (λ q j t. LinksSlot (contents held q (number j 0) .held) (view m (number j 0) .links) (t .to)) d
+        (λ q j hq hj n. subst (λ (t : Contents). LinksSlot (t .held) (view m (number j 0) .links) (causeLinks m q j)) (sym (far q j hq hj n)) (s .linksAt q j hq hj)) in
         search

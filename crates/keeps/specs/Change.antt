@@ -2,10 +2,10 @@
 -- law that a change keeps, every step keeps, and no proof walks the sixteen kinds again.
 use Prim.Native.Nat.{ℕ, _+_, _*_, _-_, _≤_, _<_}
 use mathlib.Core.Path.{_≡_}
-use mathlib.Core.Bool.{Bool, true, false}
+use mathlib.Core.Bool.{Bool, true}
 use mathlib.Core.List.{List}
 use lib.ListN.{getD, set}
-use Rattle.machine.specs.Slots.{number, place, linksPlace, noLinks, statusNumber, view, repair, entry, recordCopies, ackCopies, updateCopies, uackCopies, contents, viewlink}
+use Rattle.machine.specs.Slots.{number, place, linksPlace, noLinks, view, entry, recordCopies, ackCopies, updateCopies, uackCopies, contents, viewlink}
 use Rattle.machine.specs.Writes.{withUpAt, withView, withEntry, withViewlink, withContentsAt, withCauseLinks, withRecords, withAcks, withUpdates, withUacks}
 use Rattle.machine.specs.declared.Machine.{Machine}
 use Rattle.machine.specs.declared.View.{View}

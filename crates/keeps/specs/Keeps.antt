@@ -1,8 +1,7 @@
 -- A taken step leaves an unbroken machine unbroken; a refused one gives back its machine.
-use Prim.Native.Nat.{ℕ}
 use mathlib.Core.Path.{_≡_}
 use mathlib.Core.Logic.{_≢_}
-use mathlib.Core.Bool.{Bool, true, false}
+use mathlib.Core.Bool.{false}
 use Rattle.machine.specs.Broken.{brokenOf}
 use Rattle.machine.specs.declared.Machine.{Machine}
 use Rattle.rules.specs.Step.{numberOf, afterOf, stepOf}

@@ -3,8 +3,8 @@
 use Prim.Native.Nat.{ℕ, _+_, _*_, _≤_, _<_}
 use mathlib.Core.Path.{_≡_}
 use mathlib.Core.Logic.{_≢_}
-use mathlib.Core.Bool.{Bool, true, false}
-use mathlib.Core.List.{List, [], _∷_}
+use mathlib.Core.Bool.{true, false}
+use mathlib.Core.List.{[], _∷_}
 use lib.ListN.{getD}
 use Rattle.machine.specs.Words.{bit}
 use Rattle.machine.specs.Slots.{number, home, message, view, contents, causeLinks, viewlink}
@@ -110,7 +110,7 @@ StoreWritesLinks = (m : Machine) (p k r : ℕ) → brokenOf m ≡ false → Take
 abbrev pub OneResult : Type 0
 OneResult =
     ((m : Machine) (s : Step) (x y : Answered) → x ≡ stepOf m s → y ≡ stepOf m s → x ≡ y)
-  × ((m : Machine) (s : Step) (x y : Answered) → x ≡ ruleOf m s → y ≡ ruleOf m s → x ≡ y)
+    × ((m : Machine) (s : Step) (x y : Answered) → x ≡ ruleOf m s → y ≡ ruleOf m s → x ≡ y)
 
 -- document 01's setup M: three stores, actor 0 home 0 list 5, actor 1 home 1 list 6
 abbrev pub marked : Machine

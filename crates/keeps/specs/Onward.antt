@@ -2,7 +2,7 @@
 use Prim.Native.Nat.{ℕ, _*_, _≤_, _<_}
 use mathlib.Core.Path.{_≡_}
 use mathlib.Core.Logic.{_≢_}
-use mathlib.Core.Bool.{Bool, true, false}
+use mathlib.Core.Bool.{true, false}
 use Rattle.machine.specs.Slots.{number, statusNumber, view, repair, entry, contents, causeLinks, viewlink}
 use Rattle.machine.specs.Broken.{brokenOf}
 use Rattle.machine.specs.Closed.{closedOf}

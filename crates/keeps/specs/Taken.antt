@@ -2,7 +2,7 @@
 use Prim.Native.Nat.{ℕ, _≤_, _<_}
 use mathlib.Core.Path.{_≡_}
 use mathlib.Core.Logic.{_≢_}
-use mathlib.Core.Bool.{Bool, true, false}
+use mathlib.Core.Bool.{true, false}
 use Rattle.machine.specs.Words.{bit}
 use Rattle.machine.specs.Slots.{number, list, isUp, queue, view, repair, entry, recordCopies, ackCopies, updateCopies, uackCopies}
 use Rattle.machine.specs.declared.Machine.{Machine}

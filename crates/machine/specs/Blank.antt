@@ -1,7 +1,6 @@
 -- A machine with nothing made, nothing in flight and nothing held: blank beyond its setup.
-use Prim.Native.Nat.{ℕ, _≤_, _<_}
+use Prim.Native.Nat.{ℕ, _<_}
 use mathlib.Core.Path.{_≡_}
-use mathlib.Core.Bool.{Bool}
 use lib.Dec.{ltb}
 use lib.ListN.{replicate}
 use Rattle.machine.specs.Slots.{noMessage, noRepair, noEntry, noContents, isUp, queue, message, view, repair, entry}

@@ -1,8 +1,8 @@
 -- What holds of a machine that is not broken: each clause of document 01's list, in its order, as plain facts.
-use Prim.Native.Nat.{ℕ, _+_, _*_, _/_, _≤_, _<_}
+use Prim.Native.Nat.{ℕ, _*_, _/_, _≤_, _<_}
 use mathlib.Core.Path.{_≡_}
 use mathlib.Core.Logic.{_≢_}
-use mathlib.Core.Bool.{Bool, true, false}
+use mathlib.Core.Bool.{true, false}
 use lib.ListN.{length, getD}
 use Rattle.machine.specs.Words.{bit, times}
 use Rattle.machine.specs.Slots.{number, statusNumber, home, list, isUp, queue, standing, message, view, repair, entry}

@@ -29,25 +29,35 @@ widths = 0 ∷ 9 ∷ 1 ∷ 1 ∷ 1 ∷ 2 ∷ 3 ∷ 3 ∷ 1 ∷ 2 ∷ 2 ∷ 3 ∷
 unfoldable pub widthOf : ℕ → ℕ
 widthOf kind = getD widths kind 0
 
+-- kinds 9 to 16, whose fields are bytes: repair, loss, crash and restart
+unfoldable pub repairMade : ℕ → ℕ → ℕ → ℕ → ℕ → Step
+repairMade kind a b c d =
+    pick (eqb kind 9) (TakeRepair a b)
+    (pick (eqb kind 10) (SendUpdate a b)
+    (pick (eqb kind 11) (TakeUpdate a b c)
+    (pick (eqb kind 12) (TakeUack a b c)
+    (pick (eqb kind 13) (Expire a b)
+    (pick (eqb kind 14) (Lose a b c d)
+    (pick (eqb kind 15) (Crash a)
+    (Restart a)))))))
+
+-- kinds 2 to 16, whose fields are bytes
+unfoldable pub shortMade : ℕ → ℕ → ℕ → ℕ → ℕ → Step
+shortMade kind a b c d =
+    pick (eqb kind 2) (Receive a)
+    (pick (eqb kind 3) (PreCheck a)
+    (pick (eqb kind 4) (SendRecord a)
+    (pick (eqb kind 5) (Timeout a b)
+    (pick (eqb kind 6) (TakeRecord a b c)
+    (pick (eqb kind 7) (TakeAck a b c)
+    (pick (eqb kind 8) (PostCheck a)
+    (repairMade kind a b c d)))))))
+
 -- the step of a kind whose fields, in the order of the rules, start at i
 unfoldable pub stepMade : List ℕ → ℕ → ℕ → Step
 stepMade s kind i =
     pick (eqb kind 1) (Send (byte s i) (byte s (i + 1)) (byte s (i + 2)) (low32 s (i + 3)) (low16 s (i + 7)))
-    (pick (eqb kind 2) (Receive (byte s i))
-    (pick (eqb kind 3) (PreCheck (byte s i))
-    (pick (eqb kind 4) (SendRecord (byte s i))
-    (pick (eqb kind 5) (Timeout (byte s i) (byte s (i + 1)))
-    (pick (eqb kind 6) (TakeRecord (byte s i) (byte s (i + 1)) (byte s (i + 2)))
-    (pick (eqb kind 7) (TakeAck (byte s i) (byte s (i + 1)) (byte s (i + 2)))
-    (pick (eqb kind 8) (PostCheck (byte s i))
-    (pick (eqb kind 9) (TakeRepair (byte s i) (byte s (i + 1)))
-    (pick (eqb kind 10) (SendUpdate (byte s i) (byte s (i + 1)))
-    (pick (eqb kind 11) (TakeUpdate (byte s i) (byte s (i + 1)) (byte s (i + 2)))
-    (pick (eqb kind 12) (TakeUack (byte s i) (byte s (i + 1)) (byte s (i + 2)))
-    (pick (eqb kind 13) (Expire (byte s i) (byte s (i + 1)))
-    (pick (eqb kind 14) (Lose (byte s i) (byte s (i + 1)) (byte s (i + 2)) (byte s (i + 3)))
-    (pick (eqb kind 15) (Crash (byte s i))
-    (Restart (byte s i))))))))))))))))
+    (shortMade kind (byte s i) (byte s (i + 1)) (byte s (i + 2)) (byte s (i + 3)))
 
 -- the step at a position and the place behind it; none for an unknown kind, or where the bytes end before the fields do
 abbrev pub readKind : List ℕ → ℕ → ℕ → ℕ → Read

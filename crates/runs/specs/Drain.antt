@@ -3,11 +3,15 @@ use Prim.Native.Nat.{ℕ, zero, suc, _+_, _*_, _/_, _%_}
 use mathlib.Core.Bool.{Bool, true, false, _&&_, _||_, not}
 use mathlib.Core.List.{List, [], _∷_}
 use lib.Dec.{ltb, leb, eqb}
-use lib.ListN.{length}
+use lib.ListN.{length, getD}
 use Rattle.machine.specs.Words.{pick, bit, all}
-use Rattle.machine.specs.Slots.{number, statusNumber, queue, list, view, repair, entry, recordCopies, ackCopies, updateCopies, uackCopies}
+use Rattle.machine.specs.Slots.{number, noView, noQueue, noRepair, noEntry, statusNumber, list, entry, recordCopies, ackCopies, updateCopies, uackCopies}
 use Rattle.machine.specs.Broken.{brokenOf}
 use Rattle.machine.specs.declared.Machine.{Machine}
+use Rattle.machine.specs.declared.View.{View}
+use Rattle.machine.specs.declared.Queue.{Queue}
+use Rattle.machine.specs.declared.Repair.{Repair}
+use Rattle.machine.specs.declared.Entry.{Entry}
 use Rattle.rules.specs.Rule.{head, headView}
 use Rattle.rules.specs.Step.{stepOf}
 use Rattle.rules.specs.declared.Step.{Step}
@@ -29,17 +33,26 @@ abbrev pub roleOf : ℕ → ℕ
 roleOf v = v % 2
 
 -- (a) step 2 for the lowest unreceived key
+abbrev pub unreceivedIn : List View → ℕ → Bool
+unreceivedIn views k = eqb (getD views (number k 1) noView .phase) 0
+
 abbrev pub unreceived : Machine → ℕ
-unreceived m = lowest (m .made) (λ k. eqb (view m (number k 1) .phase) 0)
+unreceived m = lowest (m .made) (unreceivedIn (m .views))
 
 -- (b) the lowest actor with a queue
+abbrev pub busyIn : List Queue → ℕ → Bool
+busyIn queues a = not (eqb (getD queues a noQueue .len) 0)
+
 abbrev pub busy : Machine → ℕ
-busy m = lowest (m .actors) (λ a. not (eqb (queue m a .len) 0))
+busy m = lowest (m .actors) (busyIn (m .queues))
 
 -- phase 3: take an ack from the current store if one is in flight, else that store takes a record copy if one is in flight,
 -- else timeout to the lowest other store in the list
+abbrev pub otherIn : ℕ → ℕ → ℕ → Bool
+otherIn listed current p = bit listed p && not (eqb current p)
+
 abbrev pub spare : Machine → ℕ → ℕ
-spare m a = lowest (m .stores) (λ p. bit (list m a) p && not (eqb (headView m a .store) p))
+spare m a = lowest (m .stores) (otherIn (list m a) (headView m a .store))
 
 abbrev pub awaiting : Machine → ℕ → Step
 awaiting m a =
@@ -55,12 +68,21 @@ jobStep m a =
     pick (eqb phase 1) (PreCheck a) (pick (eqb phase 2) (SendRecord a) (pick (eqb phase 4) (PostCheck a) (awaiting m a)))
 
 -- (c) step 9, lowest key, role 0 first
+abbrev pub repairIn : List Repair → ℕ → Bool
+repairIn repairs v = getD repairs v noRepair .flying
+
 abbrev pub repairDue : Machine → ℕ
-repairDue m = lowest (m .made * 2) (λ v. repair m v .flying)
+repairDue m = lowest (m .made * 2) (repairIn (m .repairs))
 
 -- (d) lowest key, role 0 first, to-send: step 10; waiting: uack from the destination, else update there, else step 13
+abbrev pub isUnfinished : Entry → Bool
+isUnfinished e = eqb (statusNumber (e .status)) 1 || eqb (statusNumber (e .status)) 2
+
+abbrev pub unfinishedIn : List Entry → ℕ → Bool
+unfinishedIn entries v = isUnfinished (getD entries v noEntry)
+
 abbrev pub unfinished : Machine → ℕ → Bool
-unfinished m v = eqb (statusNumber (entry m v .status)) 1 || eqb (statusNumber (entry m v .status)) 2
+unfinished m v = unfinishedIn (m .entries) v
 
 abbrev pub entryDue : Machine → ℕ
 entryDue m = lowest (m .made * 2) (unfinished m)
@@ -72,13 +94,16 @@ entryStep m v =
     (pick (not (eqb (uackCopies m p v) 0)) (TakeUack p (keyOf v) (roleOf v))
     (pick (not (eqb (updateCopies m p v) 0)) (TakeUpdate p (keyOf v) (roleOf v)) (Expire (keyOf v) (roleOf v))))
 
--- each time the first that applies
+-- each time the first that applies: (a), (b), then what the coordinator does, (c) and (d)
+abbrev pub coordinatorTurn : Machine → Turn
+coordinatorTurn m =
+    pick (ltb (repairDue m) (m .made * 2)) (Take (TakeRepair (keyOf (repairDue m)) (roleOf (repairDue m))))
+    (pick (ltb (entryDue m) (m .made * 2)) (Take (entryStep m (entryDue m))) Rest)
+
 unfoldable pub turnOf : Machine → Turn
 turnOf m =
     pick (ltb (unreceived m) (m .made)) (Take (Receive (unreceived m)))
-    (pick (ltb (busy m) (m .actors)) (Take (jobStep m (busy m)))
-    (pick (ltb (repairDue m) (m .made * 2)) (Take (TakeRepair (keyOf (repairDue m)) (roleOf (repairDue m))))
-    (pick (ltb (entryDue m) (m .made * 2)) (Take (entryStep m (entryDue m))) Rest)))
+    (pick (ltb (busy m) (m .actors)) (Take (jobStep m (busy m))) (coordinatorTurn m))
 
 -- the steps that the drain takes, at most n of them, and the machine after them
 pub record Course : Type 0 where
@@ -100,12 +125,19 @@ course zero m = stays m
 course (suc n) m = onTurn (turnOf m) (stays m) (λ step. after step (course n (stepOf m step .machine)))
 
 -- refused with 1, then with 5 if any store is down
-abbrev pub allUp : Machine → Bool
-allUp m = all (λ p up. leb (m .stores) p || up) (m .up)
+abbrev pub upIn : ℕ → ℕ → Bool → Bool
+upIn stores p up = leb stores p || up
 
--- until none of these applies, and stops at 18 times the number of interactions in any case; its result carries the count
+abbrev pub allUp : Machine → Bool
+allUp m = all (upIn (m .stores)) (m .up)
+
+-- its result carries the count
+abbrev pub drained : Course → Drained
+drained c = record { machine = c .machine; answer = 0; count = length (c .steps) }
+
+-- until none of these applies, and stops at 18 times the number of interactions in any case
 unfoldable pub drainOf : Machine → Drained
 drainOf m =
     pick (brokenOf m) (record { machine = m; answer = 1; count = 0 })
     (pick (not (allUp m)) (record { machine = m; answer = 5; count = 0 })
-    (let c = course (m .made * 18) m in record { machine = c .machine; answer = 0; count = length (c .steps) }))
+    (drained (course (m .made * 18) m)))

@@ -1,10 +1,10 @@
 -- What a run of a book gives: the result and the answer buffer.
 use Prim.Native.Nat.{ℕ, _+_}
-use mathlib.Core.Bool.{Bool, true, false, not}
+use mathlib.Core.Bool.{Bool, not}
 use mathlib.Core.List.{List, [], _∷_, _++_}
 use lib.Dec.{ltb, eqb}
 use lib.ListN.{length, drop}
-use Rattle.machine.specs.Words.{pick, one}
+use Rattle.machine.specs.Words.{pick, times}
 use Rattle.machine.specs.Setup.{legal, freshWith, emptyMachine}
 use Rattle.machine.specs.declared.Machine.{Machine}
 use Rattle.machine.specs.declared.Setup.{Setup}
@@ -21,11 +21,6 @@ ran m (step ∷ steps) = ran (stepOf m step .machine) steps
 unfoldable pub answers : Machine → List Step → List ℕ
 answers m [] = []
 answers m (step ∷ steps) = stepOf m step .answer ∷ answers (stepOf m step .machine) steps
-
--- how many were taken
-unfoldable pub takenOf : List ℕ → ℕ
-takenOf [] = 0
-takenOf (n ∷ ns) = one (eqb n 0) + takenOf ns
 
 -- the steps of a book, and the fresh machine of its setup
 abbrev pub stepsRead : List ℕ → List Step
@@ -48,14 +43,16 @@ abbrev pub refusedRun : ℕ → Ran
 refusedRun n = record { machine = emptyMachine; answer = n; steps = 0; taken = 0 }
 
 abbrev pub fullRun : Machine → List Step → Ran
-fullRun m steps = record { machine = ran m steps; answer = 0; steps = length steps; taken = takenOf (answers m steps) }
+fullRun m steps = record { machine = ran m steps; answer = 0; steps = length steps; taken = times 0 (answers m steps) }
 
 unfoldable pub runOf : List ℕ → ℕ → Ran
 runOf s room = pick (eqb (bookNo s room) 0) (fullRun (freshOf (setupRead s)) (stepsRead s)) (refusedRun (bookNo s room))
 
--- Every step writes its number into the answer buffer at its own index; bytes behind stay. A refusal writes nothing.
+-- Every step writes its number into the answer buffer at its own index; bytes behind stay.
+unfoldable pub filled : Machine → List Step → List ℕ → List ℕ
+filled m steps buffer = answers m steps ++ drop (length steps) buffer
+
+-- A refusal writes nothing.
 unfoldable pub bufferOf : List ℕ → List ℕ → List ℕ
 bufferOf s buffer =
-    pick (eqb (bookNo s (length buffer)) 0)
-    (answers (freshOf (setupRead s)) (stepsRead s) ++ drop (length (stepsRead s)) buffer)
-    buffer
+    pick (eqb (bookNo s (length buffer)) 0) (filled (freshOf (setupRead s)) (stepsRead s) buffer) buffer

@@ -1,29 +1,25 @@
 -- The empty machine and the fresh machine of a legal setup are not broken: every slot is blank, and the setup is what it was
 -- made from. Assumes nothing.
-use Prim.Native.Nat.{ℕ, zero, suc, _+_, _*_, _-_, _/_, _%_, _≤_, _<_}
-use mathlib.Core.Path.{_≡_, refl, sym, ap, subst, _∙_}
-use mathlib.Core.Logic.{_≢_}
-use mathlib.Core.Bool.{Bool, true, false, not, true≢false, false≢true}
+use Prim.Native.Nat.{ℕ, _≤_, _<_}
+use mathlib.Core.Path.{_≡_, refl, ap, _∙_}
+use mathlib.Core.Bool.{Bool, true, false, false≢true}
 use mathlib.Core.List.{List}
 use native.Mathlib.Omega.{arith}
 use lib.ListN.{length, getD, replicate, length-replicate, getD-replicate}
 use lib.Dec.{ltb}
 use borrow.Author.Tests.{lt-ltb, le-ltb}
-use Rattle.machine.specs.Words.{pick, bit, table, times}
-use Rattle.machine.specs.Slots.{number, place, linksPlace, noView, noQueue, noContents, noLinks, noMessage, noRepair, noEntry, statusNumber, standing}
+use Rattle.machine.specs.Words.{pick, table}
+use Rattle.machine.specs.Slots.{number, place, linksPlace, noView, noQueue, noContents, noLinks, noMessage, noRepair, noEntry}
 use Rattle.machine.specs.Setup.{blankView, blankQueue, blankLinks, ofActors, freshWith, emptyMachine, legal}
 use Rattle.machine.specs.Broken.{brokenOf}
 use Rattle.machine.specs.Blank.{Blank}
-use Rattle.machine.specs.EverySlot.{LegalActor, LegalSetup, SetupKind, none, some, ViewSlot, QueueSlot, MessageSlot, RepairSlot, EntrySlot, CopySlot, ContentsSlot, LinksSlot, ViewlinkSlot, EverySlot}
-use Rattle.machine.specs.declared.Machine.{Machine}
+use Rattle.machine.specs.EverySlot.{SetupKind, none, some, ViewSlot, QueueSlot, MessageSlot, RepairSlot, EntrySlot, CopySlot, ContentsSlot, LinksSlot, ViewlinkSlot, EverySlot}
 use Rattle.machine.specs.declared.View.{View}
-use Rattle.machine.specs.declared.Queue.{Queue}
-use Rattle.machine.specs.declared.Links.{Links}
 use Rattle.machine.proofs.Laws.Tests.{not-both}
 use Rattle.machine.proofs.Laws.Every.{length-table, table-at}
 use Rattle.machine.proofs.Laws.SlotTests.{legal-says}
 use Rattle.machine.proofs.Laws.Whole.{slots-whole}
-use Rattle.machine.proofs.Laws.Bits.{bit-none, no-bit}
+use Rattle.machine.proofs.Laws.Bits.{no-bit}
 
 -- an actor's row, and none behind the last
 row : (actors : ℕ) (l : List ℕ) (a : ℕ) → a < 8 → a < actors → getD (table (ofActors actors l) 8) a 0 ≡ getD l a 0

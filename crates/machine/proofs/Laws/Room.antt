@@ -1,13 +1,13 @@
 -- The bounds that a rule needs follow from a machine's not being broken. A queue has room, since an actor has at most one view
 -- in an interaction: it isn't both sender and receiver. Assumes nothing.
-use Prim.Native.Nat.{ℕ, zero, suc, _+_, _*_, _-_, _/_, _%_, _≤_, _<_, min}
-use mathlib.Core.Path.{_≡_, refl, sym, ap, subst, _∙_}
+use Prim.Native.Nat.{ℕ, _+_, _*_, _-_, _≤_, _<_}
+use mathlib.Core.Path.{_≡_, sym, ap, subst, _∙_}
 use mathlib.Core.Logic.{_≢_}
-use mathlib.Core.Bool.{Bool, true, false}
+use mathlib.Core.Bool.{false}
 use mathlib.Core.List.{List}
 use native.Mathlib.Omega.{arith}
-use native.Mathlib.Decide.{decLt, decLe, ℕ-discrete}
-use lib.ListN.{length, getD, take, length-take, List·getD-eq-default}
+use native.Mathlib.Decide.{decLt, ℕ-discrete}
+use lib.ListN.{length, getD, length-take, List·getD-eq-default}
 use lib.Seq.{getD-take}
 use Rattle.machine.specs.Words.{times}
 use Rattle.machine.specs.Slots.{number, noView, statusNumber, queue, standing, view, entry}

@@ -1,16 +1,15 @@
 -- Each test of a slot says the facts of that slot. Assumes nothing.
-use Prim.Native.Nat.{ℕ, zero, suc, _+_, _*_, _-_, _/_, _%_, _^_, _≤_, _<_}
-use mathlib.Core.Path.{_≡_, refl, sym, ap, subst, _∙_}
-use mathlib.Core.Logic.{_≢_}
-use mathlib.Core.Bool.{Bool, true, false, _&&_, _||_, not}
+use Prim.Native.Nat.{ℕ, _*_, _-_, _/_, _%_, _^_, _≤_, _<_}
+use mathlib.Core.Path.{_≡_}
+use mathlib.Core.Bool.{true, false, _&&_, _||_}
 use mathlib.Core.List.{List}
 use native.Mathlib.Omega.{arith}
 use lib.ListN.{length, getD}
-use lib.Dec.{ltb, leb, eqb}
-use Rattle.machine.specs.Words.{pick, bit, all, times}
-use Rattle.machine.specs.Slots.{number, place, noView, noQueue, noContents, noEntry, statusNumber, standing}
+use lib.Dec.{leb, eqb}
+use Rattle.machine.specs.Words.{bit, times}
+use Rattle.machine.specs.Slots.{number, place, noView, noQueue, noContents, statusNumber, standing}
 use Rattle.machine.specs.Setup.{storesIn, legalActor, legalActors, legal}
-use Rattle.machine.specs.Broken.{linkFine, linksFine, phaseFine, roleFine, madeView, waits, queuedOnce, viewFine, standsFine, queueFine}
+use Rattle.machine.specs.Broken.{linkFine, linksFine, phaseFine, madeView, waits, queuedOnce, viewFine, standsFine, queueFine}
 use Rattle.machine.specs.Broken.{messageFine, repairFine, entryFine, copiesFine, contentsFine, sameLinks, heldLinksFine, viewlinkFine, setupFine}
 use Rattle.machine.specs.EverySlot.{LegalActor, LegalSetup, SetupKind, none, some, ViewSlot, QueueSlot, MessageSlot, RepairSlot, EntrySlot, CopySlot, ContentsSlot, LinksSlot, ViewlinkSlot}
 use Rattle.machine.specs.declared.View.{View}
@@ -21,7 +20,7 @@ use Rattle.machine.specs.declared.Message.{Message}
 use Rattle.machine.specs.declared.Repair.{Repair}
 use Rattle.machine.specs.declared.Entry.{Entry}
 use Rattle.machine.proofs.Laws.Tests.{by-test, not-both}
-use Rattle.machine.proofs.Laws.Says.{Says, Splits, le-says, lt-says, eq-says, is-says, le-splits, lt-splits, eq-splits, zero-splits, is-splits, and-says, or-says, not-says, pick-says, all-says, un-splits, not-splits, put-says}
+use Rattle.machine.proofs.Laws.Says.{Says, le-says, lt-says, eq-says, is-says, le-splits, lt-splits, eq-splits, zero-splits, is-splits, and-says, or-says, not-says, pick-says, all-says, un-splits, not-splits, put-says}
 
 -- the cause links of a record
 abbrev LinkFacts : ℕ → ℕ → ℕ → ℕ → ℕ → Type 0

@@ -1,5 +1,4 @@
 -- What the words of a test tell, `&&`, `||`, `not` and `pick`, each both ways. Assumes nothing.
-use Prim.Native.Nat.{ℕ, _≤_, _<_}
 use mathlib.Core.Path.{_≡_, refl, sym}
 use mathlib.Core.Bool.{Bool, true, false, _&&_, _||_, not, false≢true, true≢false}
 use Rattle.machine.specs.Words.{pick}

@@ -1,25 +1,20 @@
 -- A machine is whole exactly if every slot is as `EverySlot` says, and so as `Unbroken` says: `unbroken` and `whole`.
 -- The tests go through the arrays by one index; a place's store and view are its quotient and remainder. Assumes nothing.
-use Prim.Native.Nat.{ℕ, zero, suc, _+_, _*_, _-_, _/_, _%_, _^_, _≤_, _<_}
-use mathlib.Core.Path.{_≡_, refl, sym, ap, subst, _∙_}
-use mathlib.Core.Logic.{_≢_}
-use mathlib.Core.Bool.{Bool, true, false, _&&_, _||_, not}
+use Prim.Native.Nat.{ℕ, _*_, _/_, _%_, _≤_, _<_}
+use mathlib.Core.Path.{_≡_, subst}
+use mathlib.Core.Bool.{true, false, _||_, not}
 use mathlib.Core.List.{List}
 use native.Mathlib.Omega.{arith}
 use lib.ListN.{length, getD}
 use lib.Dec.{ltb, leb, eqb}
 use borrow.Author.Tests.{not-false}
-use Rattle.machine.specs.Words.{pick, bit, all, times}
-use Rattle.machine.specs.Slots.{number, place, linksPlace, noView, noQueue, noContents, noLinks, noMessage, noRepair, noEntry, statusNumber, standing}
+use Rattle.machine.specs.Slots.{number, place, linksPlace, noView, noQueue, noContents, noLinks, noMessage, noRepair, noEntry, statusNumber}
 use Rattle.machine.specs.Slots.{view, queue, entry, contents}
 use Rattle.machine.specs.Broken.{slotsFine, setupFine, rowsFine, upFine, viewFine, queueFine, messageFine, repairFine, entryFine, copiesFine, recordsFine, updatesFine, contentsFine, heldLinksFine, viewlinkFine, viewlinksFine, jobsFine, placesFine, wholeOf, brokenOf}
-use Rattle.machine.specs.EverySlot.{Sized, SetupKind, ViewSlot, QueueSlot, MessageSlot, RepairSlot, EntrySlot, CopySlot, ContentsSlot, LinksSlot, ViewlinkSlot, EverySlot}
-use Rattle.machine.specs.Unbroken.{Unbroken}
+use Rattle.machine.specs.EverySlot.{Sized, QueueSlot, MessageSlot, RepairSlot, EntrySlot, CopySlot, ContentsSlot, LinksSlot, ViewlinkSlot, EverySlot}
 use Rattle.machine.specs.declared.Machine.{Machine}
-use Rattle.machine.specs.declared.View.{View}
-use Rattle.machine.specs.declared.Contents.{Contents}
-use Rattle.machine.proofs.Laws.Tests.{and-left, and-right, and-both, not-back}
-use Rattle.machine.proofs.Laws.Says.{Says, Splits, le-says, lt-says, eq-says, is-says, is-splits, lt-splits, and-says, or-says, not-says, all-says, put-says}
+use Rattle.machine.proofs.Laws.Tests.{not-back}
+use Rattle.machine.proofs.Laws.Says.{Says, le-says, eq-says, is-says, is-splits, lt-splits, and-says, or-says, not-says, all-says, put-says}
 use Rattle.machine.proofs.Laws.SlotTests.{ViewKept, view-says, queue-says, message-says, repair-says, entry-says, copies-says, contents-says, held-links-says, viewlink-says, setup-says}
 
 slots-say : (m : Machine) → Says (slotsFine m) (Sized m)

@@ -1,0 +1,63 @@
+-- The guarantees 6 and 8: a drain is a run that closes everything, and a book's machine is that of a run. Assumes nothing.
+use mathlib.Core.Path.{_≡_, refl, sym, ap, _∙_, subst}
+use mathlib.Core.Bool.{Bool, true, false, not}
+use mathlib.Core.List.{List, [], _∷_, _++_}
+use Prim.Native.Nat.{ℕ, _*_, _≤_, _<_}
+use native.Mathlib.Omega.{arith}
+use borrow.Author.Tests.{eqb-true, eqb-false, not-false}
+use lib.Dec.{eqb, ltb}
+use lib.ListN.{length}
+use Rattle.machine.specs.Words.{pick, table}
+use Rattle.machine.specs.Closed.{closedOf}
+use Rattle.machine.specs.declared.Machine.{Machine}
+use Rattle.machine.specs.declared.Setup.{Setup}
+use Rattle.machine.proofs.Laws.Every.{length-table}
+use Rattle.rules.specs.declared.Step.{Step}
+use Rattle.runs.specs.Book.{wellFormed, setupRead, homeRead, listRead, actorsRead}
+use Rattle.runs.specs.Run.{ran, freshOf, legalSetup, stepsRead, bookNo, runOf}
+use Rattle.runs.specs.Drain.{allUp, drainOf}
+use Rattle.runs.specs.declared.Drained.{Drained}
+use Rattle.drains.specs.Drains.{Ends, stepsOf, endOf}
+use Rattle.drains.proofs.Courses.{drain-ends}
+use Rattle.guarantees.specs.Acknowledged.{Legal, after}
+use Rattle.guarantees.specs.Guarantees.{Drains, TheDrain, BookRun, Books}
+use Rattle.guarantees.proofs.Conditions.{pick-zero}
+use Rattle.guarantees.proofs.Demand.{reached, ran-append}
+
+pub ends : (u : Setup) → Legal u → (steps : List Step) → allUp (after u steps) ≡ true → Ends (after u steps)
+ends u l steps up = drain-ends (after u steps) (record { unbroken = reached u l steps .fine; up = up })
+
+pub the-drain : TheDrain
+the-drain u l steps up =
+    let e = ends u l steps up in
+    let m = ap (λ (d : Drained). d .machine) (e .result) in
+    record {
+      answer = ap (λ (d : Drained). d .answer) (e .result);
+      closes = λ k h. ap (λ (x : Machine). closedOf x k) m ∙ e .closes k h;
+      bound = rw (e .result) (e .count);
+      count = ap (λ (d : Drained). d .count) (e .result);
+      run = m ∙ e .run ∙ sym (ran-append (freshOf u) steps (stepsOf (after u steps)));
+      made = ap (λ (x : Machine). x .made) m ∙ e .made;
+    }
+
+pub books : Books
+unfolding runOf bookNo setupRead
+books s room e = go (eqb (bookNo s room) 0) refl
+  where
+    legal : bookNo s room ≡ 0 → legalSetup (setupRead s) ≡ true
+    legal z =
+        let a = pick-zero (not (wellFormed s)) 9 (pick (not (legalSetup (setupRead s))) 11 (pick (ltb room (length (stepsRead s))) 12 0)) z in
+        let b = pick-zero (not (legalSetup (setupRead s))) 10 (pick (ltb room (length (stepsRead s))) 12 0) (a .1) in
+        not-false (legalSetup (setupRead s)) (b .0)
+
+    go : (t : Bool) → eqb (bookNo s room) 0 ≡ t → BookRun s room
+    go true t =
+        record {
+          legal = record {
+            legal = legal (eqb-true (bookNo s room) 0 t);
+            homes8 = length-table (λ a. pick (ltb a (actorsRead s)) (homeRead s a) 0) 8;
+            lists8 = length-table (λ a. pick (ltb a (actorsRead s)) (listRead s a) 0) 8;
+          };
+          machine = rw t;
+        }
+    go false t = absurd (eqb-false (bookNo s room) 0 t (rw t at e))

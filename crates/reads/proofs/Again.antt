@@ -1,0 +1,205 @@
+-- The bytes of a book have one reading: its rows and each of its steps, written again, are the bytes that were read, so the whole is.
+-- Assumes nothing.
+use Prim.Native.Nat.{ℕ, zero, suc, _+_, _*_, _/_, _%_, _≤_, _<_}
+use mathlib.Core.Path.{_≡_, refl, sym, ap, _∙_}
+use mathlib.Core.Bool.{Bool, true, false, _||_, false≢true, and-eq-true-iff}
+use mathlib.Core.List.{List, [], _∷_, _++_, append-assoc}
+use native.Mathlib.Omega.{arith}
+use native.Mathlib.Numerals.{add-one}
+use native.Mathlib.Nat.{add-assoc}
+use lib.Dec.{leb, ltb, eqb}
+use lib.ListN.{length, drop, length-append, List·getD-eq-default}
+use lib.Seq.{drop-cons, drop-length}
+use lib.Pow.{areBytes}
+use borrow.Author.Tests.{ltb-true, ltb-false, leb-false, eqb-false, eqb-true}
+use Rattle.machine.specs.Words.{pick, table}
+use Rattle.rules.specs.declared.Step.{Step}
+use Rattle.runs.specs.declared.Cursor.{Cursor}
+use Rattle.runs.specs.declared.Read.{Read}
+use Rattle.runs.specs.declared.Read.the-variants.{Got, Bad}
+use Rattle.runs.specs.Book.{byte, low16, widths, widthOf, repairMade, shortMade, stepMade, readStep, onRead, validFrom, stepsFrom, homeRead, listRead, actorsRead, startOf, countOf, wellFormed, readingOf}
+use Rattle.runs.specs.Run.{stepsRead}
+use Rattle.runs.specs.Write.{written, writtenSteps, writtenRows, writtenBook}
+use Rattle.runs.proofs.Formed.{valid-all, start-fits, count-steps}
+use Rattle.reads.specs.Reading.{ReadsAlike, WritesAgain, OneReading}
+
+pub reads-alike : ReadsAlike
+reads-alike s t e = ap readingOf e
+
+byte-low : (s : List ℕ) → areBytes s ≡ true → (i : ℕ) → byte s i < 256
+byte-low [] h i = omega arith
+byte-low (b ∷ s) h zero = ltb-true b 256 (and-eq-true-iff (ltb b 256) (areBytes s) .0 h .0)
+byte-low (b ∷ s) h (suc i) = byte-low s (and-eq-true-iff (ltb b 256) (areBytes s) .0 h .1) i
+
+-- n bytes from i
+abbrev from : List ℕ → ℕ → ℕ → List ℕ
+from s i zero = []
+from s i (suc n) = byte s i ∷ from s (i + 1) n
+
+drop-from : (s : List ℕ) (i n : ℕ) → i + n ≤ length s → drop i s ≡ from s i n ++ drop (i + n) s
+drop-from s i zero h = let e : i + 0 ≡ i = omega arith in rw e
+drop-from s i (suc n) h =
+    let b : i < length s = omega arith in
+    let e : i + suc n ≡ (i + 1) + n = omega arith in
+    drop-cons s i 0 b ∙ ap (λ (l : List ℕ). byte s i ∷ l) (rw (← add-one, e) (drop-from s (i + 1) n (omega arith)))
+
+-- what holds of k, k + 1, .., k + n holds of each number between them
+abbrev Each : (ℕ → Type 0) → ℕ → ℕ → Type 0
+Each P k zero = P k
+Each P k (suc n) = P k × Each P (suc k) n
+
+each : (P : ℕ → Type 0) (k n : ℕ) → Each P k n → (i : ℕ) → k ≤ i → i ≤ k + n → P i
+each P k zero p i a b = let e : i ≡ k = omega arith in rw e p
+each P k (suc n) p i a b = go (each P (suc k) n (p .1) i) (eqb i k) refl
+  where
+    go : (suc k ≤ i → i ≤ suc k + n → P i) → (t : Bool) → eqb i k ≡ t → P i
+    go f true e = rw (eqb-true i k e) (p .0)
+    go f false e = let d : i ≡ k → ⊥ = eqb-false i k e in f (omega arith) (omega arith)
+
+-- a kind that has fields is one of sixteen
+width-behind : (k : ℕ) → 16 < k → widthOf k ≡ 0
+unfolding widthOf
+width-behind k h = List·getD-eq-default widths 0 h
+
+kind-low : (k : ℕ) → (widthOf k ≡ 0 → ⊥) → (1 ≤ k) × (k ≤ 16)
+unfolding widthOf
+kind-low zero h = absurd (h refl)
+kind-low (suc k) h = (omega arith, go (ltb 16 (suc k)) refl)
+  where
+    go : (t : Bool) → ltb 16 (suc k) ≡ t → suc k ≤ 16
+    go true e = absurd (h (width-behind (suc k) (ltb-true 16 (suc k) e)))
+    go false e = ltb-false 16 (suc k) e
+
+-- two and four bytes, low first, come back
+module _ (a b c d : ℕ) (ha : a < 256) (hb : b < 256) (hc : c < 256) (hd : d < 256) where
+  d0 : ((a + b * 256) + (c + d * 256) * 65536) % 256 ≡ a
+  d0 = omega arith
+
+  d1 : ((a + b * 256) + (c + d * 256) * 65536) / 256 % 256 ≡ b
+  d1 = omega arith
+
+  d2 : ((a + b * 256) + (c + d * 256) * 65536) / 65536 % 256 ≡ c
+  d2 = omega arith
+
+  d3 : ((a + b * 256) + (c + d * 256) * 65536) / 16777216 ≡ d
+  d3 = omega arith
+
+  c0 : (a + b * 256) % 256 ≡ a
+  c0 = omega arith
+
+  c1 : (a + b * 256) / 256 ≡ b
+  c1 = omega arith
+
+-- a step that was made of bytes, written again, is those bytes
+module _ (s : List ℕ) (bs : areBytes s ≡ true) (i : ℕ) where
+  abbrev Same : ℕ → Type 0
+  Same k = written (stepMade s k i) ≡ k ∷ from s i (widthOf k)
+
+  send-same : Same 1
+  unfolding stepMade widthOf
+  send-same =
+      let w : (x : ℕ → ℕ → ℕ → ℕ → Type 0) → ((a b c d : ℕ) → a < 256 → b < 256 → c < 256 → d < 256 → x a b c d) → (j k : ℕ) → x (byte s j) (byte s (j + 1)) (byte s k) (byte s (k + 1))
+      = λ x f j k. f _ _ _ _ (byte-low s bs j) (byte-low s bs (j + 1)) (byte-low s bs k) (byte-low s bs (k + 1)) in
+      rw (w _ d0 (i + 3) (i + 3 + 2), w _ d1 (i + 3) (i + 3 + 2), w _ d2 (i + 3) (i + 3 + 2), w _ d3 (i + 3) (i + 3 + 2), w _ c0 (i + 7) (i + 7), w _ c1 (i + 7) (i + 7)) (simp add-assoc)
+
+  step-same : (k : ℕ) → (widthOf k ≡ 0 → ⊥) → Same k
+  unfolding stepMade shortMade repairMade widthOf
+  step-same k h =
+      each Same 1 15
+      (send-same, (refl, (refl, (refl, (refl, (simp add-assoc, (simp add-assoc, (refl, (refl, (refl, (simp add-assoc, (simp add-assoc, (refl, (simp add-assoc, (refl, refl)))))))))))))))
+      k (kind-low k h .0) (kind-low k h .1)
+
+-- what a step that was read says of the bytes
+record Found (s : List ℕ) (at : ℕ) (step : Step) (c : Cursor) : Type 0 where
+  here : at < length s
+  wide : widthOf (byte s at) ≡ 0 → ⊥
+  fits : at + widthOf (byte s at) < length s
+  made : stepMade s (byte s at) (at + 1) ≡ step
+  next : c .at ≡ at + 1 + widthOf (byte s at)
+
+picked : (P : Type 0) (b₁ b₂ b₃ : Bool) (x step : Step) (y c : Cursor) → (b₁ ≡ false → b₂ ≡ false → b₃ ≡ false → x ≡ step → y ≡ c → P)
+    → pick b₁ Bad (pick (b₂ || b₃) Bad (Got x y)) ≡ Got step c → P
+picked P true b₂ b₃ x step y c f e = let z : _≡_ {A = ℕ} 0 1 = cc in let w : ⊥ = omega arith in absurd w
+picked P false true b₃ x step y c f e = let z : _≡_ {A = ℕ} 0 1 = cc in let w : ⊥ = omega arith in absurd w
+picked P false false true x step y c f e = let z : _≡_ {A = ℕ} 0 1 = cc in let w : ⊥ = omega arith in absurd w
+picked P false false false x step y c f e = f refl refl refl (cc) (cc)
+
+found : (s : List ℕ) (at : ℕ) (step : Step) (c : Cursor) → readStep s at ≡ Got step c → Found s at step c
+unfolding readStep
+found s at step c e =
+    let k : ℕ = byte s at in
+    picked (Found s at step c) (leb (length s) at) (eqb (widthOf k) 0) (leb (length s) (at + widthOf k)) (stepMade s k (at + 1)) step (record { at = at + 1 + widthOf k }) c
+    (λ p q r m n. record { here = leb-false _ _ p; wide = eqb-false _ _ q; fits = leb-false _ _ r; made = m; next = ap (λ (x : Cursor). x .at) (sym n) }) e
+
+-- the bytes of a step that was read, and the rest
+step-again : (s : List ℕ) → areBytes s ≡ true → (at : ℕ) (step : Step) (c : Cursor) → readStep s at ≡ Got step c → drop at s ≡ written step ++ drop (c .at) s
+step-again s bs at step c e =
+    let h : Found s at step c = found s at step c e in
+    let k : ℕ = byte s at in
+    let l : at + 1 + widthOf k ≤ length s = omega (arith, h .fits) in
+    let m : written (stepMade s k (at + 1)) ≡ k ∷ from s (at + 1) (widthOf k) = step-same s bs (at + 1) k (h .wide) in
+    let d : drop at s ≡ k ∷ drop (at + 1) s = drop-cons s at 0 (h .here) ∙ rw add-one in
+    d ∙ ap (λ (x : List ℕ). k ∷ x) (drop-from s (at + 1) (widthOf k) l) ∙ rw (← h .made, m, h .next)
+
+again-on : (s : List ℕ) (bs : areBytes s ≡ true) (n at : ℕ) (r : Read) → readStep s at ≡ r → ((p : ℕ) → validFrom s n p ≡ true → drop p s ≡ writtenSteps (stepsFrom s n p))
+    → onRead r false (λ step p. validFrom s n p) ≡ true → drop at s ≡ writtenSteps (onRead r [] (λ step p. step ∷ stepsFrom s n p))
+unfolding writtenSteps
+again-on s bs n at Bad q f e = absurd (false≢true e)
+again-on s bs n at (Got step c) q f e = step-again s bs at step c q ∙ ap (λ (x : List ℕ). written step ++ x) (f (c .at) e)
+
+-- what stands from a place to the end is the bytes of the steps that are read there
+steps-again : (s : List ℕ) (bs : areBytes s ≡ true) (n at : ℕ) → validFrom s n at ≡ true → drop at s ≡ writtenSteps (stepsFrom s n at)
+unfolding validFrom stepsFrom writtenSteps
+steps-again s bs zero at e = ap (λ (k : ℕ). drop k s) (eqb-true at (length s) e) ∙ drop-length s
+steps-again s bs (suc n) at e = again-on s bs n at (readStep s at) refl (steps-again s bs n) e
+
+-- the rows, one more at a time
+length-table : (f : ℕ → ℕ) (n : ℕ) → length (table f n) ≡ n
+unfolding table
+length-table f zero = refl
+length-table f (suc n) = simp length-append (omega (arith, length-table f n))
+
+rows-snoc : (xs ys : List ℕ) (x y : ℕ) → length xs ≡ length ys → writtenRows (xs ++ (x ∷ [])) (ys ++ (y ∷ [])) ≡ writtenRows xs ys ++ (x ∷ y ∷ [])
+unfolding writtenRows
+rows-snoc [] [] x y e = refl
+rows-snoc [] (b ∷ ys) x y e = let z : ⊥ = omega arith in absurd z
+rows-snoc (a ∷ xs) [] x y e = let z : ⊥ = omega arith in absurd z
+rows-snoc (a ∷ xs) (b ∷ ys) x y e = ap (λ (l : List ℕ). a ∷ b ∷ l) (rows-snoc xs ys x y (omega arith))
+
+rows-again : (s : List ℕ) (n : ℕ) → 2 + 2 * n ≤ length s → drop 2 s ≡ writtenRows (table (homeRead s) n) (table (listRead s) n) ++ drop (2 + 2 * n) s
+unfolding table writtenRows
+rows-again s zero h = refl
+rows-again s (suc n) h =
+    let l : length (table (homeRead s) n) ≡ length (table (listRead s) n) = length-table (homeRead s) n ∙ sym (length-table (listRead s) n) in
+    let t : 2 + 2 * n + 2 ≡ 2 + 2 * suc n = omega arith in
+    let u : 2 + 2 * n + 1 ≡ 3 + 2 * n = omega arith in
+    let d : drop (2 + 2 * n) s ≡ homeRead s n ∷ listRead s n ∷ drop (2 + 2 * suc n) s = rw (u, t) at (drop-from s (2 + 2 * n) 2 (omega arith)) in
+    rows-again s n (omega arith) ∙ rw (rows-snoc (table (homeRead s) n) (table (listRead s) n) (homeRead s n) (listRead s n) l, append-assoc, d)
+
+start-at : (s : List ℕ) → startOf s ≡ 2 + 2 * actorsRead s + 2
+unfolding startOf
+start-at s = omega arith
+
+count-at : (s : List ℕ) → countOf s ≡ low16 s (2 + 2 * actorsRead s)
+unfolding countOf
+count-at s = refl
+
+book-again : (s : List ℕ) → areBytes s ≡ true → wellFormed s ≡ true → s ≡ writtenBook (readingOf s)
+unfolding writtenBook readingOf
+book-again s bs v =
+    let a : ℕ = actorsRead s in
+    let l : 2 + 2 * a + 2 ≤ length s = rw (start-at s) at (start-fits s v) in
+    let n : length (stepsRead s) ≡ countOf s = count-steps s v in
+    let t : drop (startOf s) s ≡ writtenSteps (stepsRead s) = steps-again s bs (countOf s) (startOf s) (valid-all s v) in
+    let x : countOf s % 256 ≡ byte s (2 + 2 * a) = rw (count-at s) (c0 _ _ 0 0 (byte-low s bs _) (byte-low s bs _) (omega arith) (omega arith)) in
+    let y : countOf s / 256 ≡ byte s (2 + 2 * a + 1) = rw (count-at s) (c1 _ _ 0 0 (byte-low s bs _) (byte-low s bs _) (omega arith) (omega arith)) in
+    let w : drop (2 + 2 * a) s ≡ from s (2 + 2 * a) 2 ++ drop (2 + 2 * a + 2) s = drop-from s (2 + 2 * a) 2 l in
+    let r : drop 2 s ≡ writtenRows (table (homeRead s) a) (table (listRead s) a) ++ (length (stepsRead s) % 256 ∷ length (stepsRead s) / 256 ∷ writtenSteps (stepsRead s))
+    = rows-again s a (omega arith) ∙ rw (w, ← start-at s, t, n, x, y) in
+    drop-from s 0 2 (omega arith) ∙ rw (r, length-table (homeRead s) a)
+
+pub writes-again : WritesAgain
+writes-again s bs v = sym (book-again s bs v)
+
+pub one-reading : OneReading
+one-reading s t bs bt v w e = sym (writes-again s bs v) ∙ ap writtenBook e ∙ writes-again t bt w

@@ -1,0 +1,82 @@
+-- A run folds the steps, and its answers are those of the fold, by induction over the steps that are read. Assumes nothing.
+use Prim.Native.Nat.{ℕ, _+_, _-_, _≤_}
+use mathlib.Core.Path.{_≡_, refl, sym, ap, _∙_}
+use mathlib.Core.Bool.{Bool, true, false, not}
+use mathlib.Core.List.{List, [], _∷_, _++_, append-assoc}
+use native.Mathlib.Omega.{arith}
+use lib.Dec.{eqb}
+use lib.ListN.{length, getD, take, drop}
+use lib.Seq.{getD-at, getD-append-add, getD-drop, take-at}
+use borrow.Author.Tests.{ne-eqb}
+use Rattle.machine.specs.Words.{pick, times}
+use Rattle.machine.specs.Setup.{setupOf}
+use Rattle.machine.specs.declared.Machine.{Machine}
+use Rattle.rules.specs.Step.{stepOf}
+use Rattle.rules.specs.declared.Step.{Step}
+use Rattle.runs.specs.Book.{setupRead, readingOf}
+use Rattle.runs.specs.Run.{ran, answers, stepsRead, freshOf, bookNo, runOf, filled, bufferOf}
+use Rattle.runs.proofs.Formed.{answers-length, accepted, legal-machine}
+use Rattle.reads.specs.Run.{next, folded, RunFolds, AnswersFold, BehindStay, RefusalWritesNothing, TakenAreZeros, OneResult}
+
+-- a run that is not refused starts from the machine of its setup
+starts : (s : List ℕ) (room : ℕ) → bookNo s room ≡ 0 → setupOf (setupRead s) .machine ≡ freshOf (setupRead s)
+starts s room e = legal-machine (setupRead s) (accepted s room e .legal)
+
+ran-folds : (m : Machine) (steps : List Step) → ran m steps ≡ folded next m steps
+unfolding ran folded
+ran-folds m [] = refl
+ran-folds m (step ∷ steps) = ran-folds (next m step) steps
+
+pub run-folds : RunFolds
+unfolding runOf readingOf
+run-folds s room e = rw (starts s room e) (simp e (ran-folds (freshOf (setupRead s)) (stepsRead s)))
+
+-- the answers of a list in two parts
+answers-append : (m : Machine) (xs ys : List Step) → answers m (xs ++ ys) ≡ answers m xs ++ answers (folded next m xs) ys
+unfolding answers folded
+answers-append m [] ys = refl
+answers-append m (x ∷ xs) ys = ap (λ (l : List ℕ). stepOf m x .answer ∷ l) (answers-append (next m x) xs ys)
+
+answer-at : (m : Machine) (xs : List Step) (x : Step) (ys : List Step) (buffer : List ℕ) → getD (filled m (xs ++ (x ∷ ys)) buffer) (length xs) 0 ≡ stepOf (folded next m xs) x .answer
+unfolding filled answers
+answer-at m xs x ys buffer =
+    rw (answers-append m xs (x ∷ ys), append-assoc)
+    (getD-at (answers m xs) _ _ 0 (length xs) (answers-length m xs))
+
+pub answers-fold : AnswersFold
+unfolding bufferOf readingOf
+answers-fold s buffer before step behind e q =
+    rw (starts s (length buffer) e) (simp (e, q) (answer-at (freshOf (setupRead s)) before step behind buffer))
+
+filled-behind : (m : Machine) (steps : List Step) (buffer : List ℕ) (i : ℕ) → length steps ≤ i → getD (filled m steps buffer) i 0 ≡ getD buffer i 0
+unfolding filled
+filled-behind m steps buffer i h =
+    let n : length (answers m steps) ≡ length steps = answers-length m steps in
+    let k : i ≡ length (answers m steps) + (i - length steps) = omega arith in
+    let j : length steps + (i - length steps) ≡ i = omega arith in
+    ap (λ (x : ℕ). getD (answers m steps ++ drop (length steps) buffer) x 0) k
+    ∙ getD-append-add (answers m steps) (drop (length steps) buffer) (i - length steps) 0
+    ∙ getD-drop (length steps) buffer (i - length steps) 0 ∙ ap (λ (x : ℕ). getD buffer x 0) j
+
+pub behind-stay : BehindStay
+unfolding bufferOf readingOf
+behind-stay s buffer i h = go (eqb (bookNo s (length buffer)) 0)
+  where
+    go : (t : Bool) → getD (pick t (filled (freshOf (setupRead s)) (stepsRead s) buffer) buffer) i 0 ≡ getD buffer i 0
+    go true = filled-behind (freshOf (setupRead s)) (stepsRead s) buffer i h
+    go false = refl
+
+pub refusal-writes-nothing : RefusalWritesNothing
+unfolding bufferOf
+refusal-writes-nothing s buffer h = simp (ne-eqb _ 0 h)
+
+taken-filled : (m : Machine) (steps : List Step) (buffer : List ℕ) → times 0 (answers m steps) ≡ times 0 (take (length steps) (filled m steps buffer))
+unfolding filled
+taken-filled m steps buffer = ap (times 0) (sym (take-at (answers m steps) (drop (length steps) buffer) (length steps) (answers-length m steps)))
+
+pub taken-are-zeros : TakenAreZeros
+unfolding runOf bufferOf readingOf
+taken-are-zeros s buffer e = simp e (taken-filled (freshOf (setupRead s)) (stepsRead s) buffer)
+
+pub one-result : OneResult
+one-result s buffer r q x y p o = (p .result ∙ sym (o .result), p .written ∙ sym (o .written))

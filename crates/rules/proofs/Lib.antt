@@ -1,0 +1,3 @@
+pub mod Kit
+pub mod Loops
+pub mod Unbroken

@@ -1,0 +1,54 @@
+-- `causes_known` meets its contract: the tests below the loop's index held. Assumes nothing.
+use Prim.Native.Nat.{_-_}
+use mathlib.Core.Path.{_∙_, sym}
+use native.Mathlib.Omega.{arith}
+use borrow.Author.Tests.{not-false, not-true}
+use Rattle.machine.specs.Setup.{emptyMachine}
+use Rattle.machine.specs.Writes.{withMade, withViews}
+use Rattle.rules.specs.Send.{causeKnown, causesKnown}
+use Rattle.rules.proofs.Loops.{Passed, pass-end, pass-start, pass-step, pass-stop}
+use Rattle.rules.proofs.send.causes_known.Statement.{statement}
+use Rattle.rules.proofs.send.causes_known.Tie as tie
+
+abbrev Inv-loop : tie.InvT-loop
+Inv-loop views made actor causes j₀ j = Passed (causeKnown (withMade (withViews emptyMachine views) made) actor causes) 16 j
+
+abbrev μ-loop : tie.MeasureT-loop
+μ-loop views made actor causes j₀ j = 16 - j
+
+loop-holds : tie.Need-loop-holds Inv-loop μ-loop
+loop-holds c = pass-start _ _
+
+cause-known-requires : tie.Need-cause-known-requires Inv-loop μ-loop
+cause-known-requires c κs = omega arith
+
+returns : tie.Need-returns Inv-loop μ-loop
+unfolding causesKnown
+returns c = pass-stop (c .before .before .before .loop .inv) (c .before .before .loop-test .taken) (sym (c .before .cause-known .ensures) ∙ not-true _ (c .if1 .taken))
+
+add-j : tie.Need-add-j Inv-loop μ-loop
+add-j c = omega arith
+
+loop-less : tie.Need-loop-less Inv-loop μ-loop
+loop-less c = omega arith
+
+loop-again : tie.Need-loop-again Inv-loop μ-loop
+loop-again c = pass-step (c .before .before .before .loop .inv) (c .before .before .loop-test .taken) (sym (c .before .cause-known .ensures) ∙ not-false _ (c .if1 .left))
+
+returns-2 : tie.Need-returns-2 Inv-loop μ-loop
+unfolding causesKnown
+returns-2 c = pass-end (c .before .loop .inv) (c .loop-test .left)
+
+pub causes-known-spec : {M : Type 1} → statement M
+causes-known-spec =
+    tie.close
+    (tie.spec
+    Inv-loop
+    μ-loop
+    loop-holds
+    cause-known-requires
+    returns
+    add-j
+    loop-less
+    loop-again
+    returns-2)

@@ -1,0 +1,6 @@
+pub mod Reading
+pub mod Running
+pub mod Formed
+pub mod Ends
+pub mod Lowest
+pub mod Draining

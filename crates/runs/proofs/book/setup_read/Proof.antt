@@ -1,0 +1,25 @@
+-- The setup is made of the counts and the two columns that were read. Assumes nothing.
+use borrow.Author.Needs.{needs}
+use Rattle.runs.specs.Book.{setupRead}
+use Rattle.runs.proofs.book.setup_read.Statement.{statement}
+use Rattle.runs.proofs.book.setup_read.Tie as tie
+
+column-requires : tie.Need-column-requires
+column-requires c κs = search needs
+
+column-requires-2 : tie.Need-column-requires-2
+column-requires-2 c κs = search needs
+
+byte-requires : tie.Need-byte-requires
+byte-requires c κs = search needs
+
+byte-requires-2 : tie.Need-byte-requires-2
+byte-requires-2 c κs = search needs
+
+returns : tie.Need-returns
+unfolding setupRead
+returns c = cc
+
+pub setup-read-spec : {M : Type 1} → statement M
+setup-read-spec =
+    tie.close (tie.spec column-requires column-requires-2 byte-requires byte-requires-2 returns)

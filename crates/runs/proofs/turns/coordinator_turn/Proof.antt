@@ -1,0 +1,38 @@
+-- Each exit by the tests before it, which speak of the lowest that the searches found. Assumes nothing.
+use borrow.Author.Tests.{lt-ltb, le-ltb}
+use borrow.Author.Needs.{needs}
+use Rattle.runs.proofs.turns.coordinator_turn.Statement.{statement}
+use Rattle.runs.proofs.turns.coordinator_turn.Tie as tie
+
+mul-end : tie.Need-mul-end
+mul-end c = search needs
+
+repair-due-requires : tie.Need-repair-due-requires
+repair-due-requires c κs = search needs
+
+returns : tie.Need-returns
+returns c = simp (← c .before .repair-due .ensures, lt-ltb _ _ (c .if1 .taken))
+
+entry-due-requires : tie.Need-entry-due-requires
+entry-due-requires c κs = search needs
+
+entry-step-requires : tie.Need-entry-step-requires
+entry-step-requires c κs = search needs
+
+returns-2 : tie.Need-returns-2
+returns-2 c = simp (← c .before .before .before .before .before .repair-due .ensures, le-ltb _ _ (c .before .before .before .before .if1 .left), ← c .before .before .entry-due .ensures, lt-ltb _ _ (c .before .if2 .taken), c .entry-step .ensures)
+
+returns-3 : tie.Need-returns-3
+returns-3 c = simp (← c .before .before .before .before .repair-due .ensures, le-ltb _ _ (c .before .before .before .if1 .left), ← c .before .entry-due .ensures, le-ltb _ _ (c .if2 .left))
+
+pub coordinator-turn-spec : {M : Type 1} → statement M
+coordinator-turn-spec =
+    tie.close
+    (tie.spec
+    mul-end
+    repair-due-requires
+    returns
+    entry-due-requires
+    entry-step-requires
+    returns-2
+    returns-3)

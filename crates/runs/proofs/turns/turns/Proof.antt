@@ -1,0 +1,69 @@
+-- The loop goes along the course (proofs/Draining); it stays unbroken, so each turn has its bounds. Assumes nothing.
+use Prim.Native.Nat.{_-_}
+use mathlib.Core.Path.{sym, _∙_}
+use borrow.Author.Needs.{needs}
+use Rattle.machine.proofs.Laws.{bounds}
+use Rattle.runs.proofs.Draining.{Going, going-start, going-on, going-rest, going-end}
+use Rattle.runs.proofs.turns.turns.Statement.{statement}
+use Rattle.runs.proofs.turns.turns.Tie as tie
+
+abbrev Inv-loop : tie.InvT-loop
+Inv-loop limit m₀ count₀ m count = Going limit m₀ count m
+
+abbrev μ-loop : tie.MeasureT-loop
+μ-loop limit m₀ count₀ m count = limit - count
+
+cast-limit : tie.Need-cast-limit Inv-loop μ-loop
+cast-limit c = search needs
+
+mul-limit : tie.Need-mul-limit Inv-loop μ-loop
+mul-limit c = search needs
+
+loop-holds : tie.Need-loop-holds Inv-loop μ-loop
+loop-holds c = going-start _ _ (c .before .pre)
+
+turn-requires : tie.Need-turn-requires Inv-loop μ-loop
+turn-requires c κs = bounds _ (c .before .loop .inv .whole)
+
+enum-known-t : tie.Need-enum-known-t Inv-loop μ-loop
+enum-known-t c = search needs
+
+enum-told : tie.Need-enum-told Inv-loop μ-loop
+enum-told c = search needs
+
+returns : tie.Need-returns Inv-loop μ-loop
+returns c = going-rest (c .before .before .before .before .loop .inv) (c .before .before .before .loop-test .taken) (sym (c .before .before .turn .ensures) ∙ c .enum-told .given .1)
+
+step-unbroken-requires : tie.Need-step-unbroken-requires Inv-loop μ-loop
+step-unbroken-requires c κs = c .before .before .before .before .before .loop .inv .whole
+
+add-count : tie.Need-add-count Inv-loop μ-loop
+add-count c = search needs
+
+loop-less : tie.Need-loop-less Inv-loop μ-loop
+loop-less c = search needs
+
+loop-again : tie.Need-loop-again Inv-loop μ-loop
+loop-again c = going-on (c .before .before .before .before .before .before .before .loop .inv) _ (c .before .step-unbroken .result) (c .before .before .before .before .before .before .loop-test .taken) (sym (c .before .before .before .before .before .turn .ensures) ∙ c .before .before .before .t .given .1) (c .before .step-unbroken .ensures)
+
+returns-2 : tie.Need-returns-2 Inv-loop μ-loop
+returns-2 c = going-end (c .before .loop .inv) (c .loop-test .left)
+
+pub turns-spec : {M : Type 1} → statement M
+turns-spec =
+    tie.close
+    (tie.spec
+    Inv-loop
+    μ-loop
+    cast-limit
+    mul-limit
+    loop-holds
+    turn-requires
+    enum-known-t
+    enum-told
+    returns
+    step-unbroken-requires
+    add-count
+    loop-less
+    loop-again
+    returns-2)
