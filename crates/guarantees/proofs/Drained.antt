@@ -1,4 +1,5 @@
--- The guarantees 6 and 8: a drain is a run that closes everything, and a book's machine is that of a run. Assumes nothing.
+-- The guarantees 6, 8 and 9: a drain is a run that closes everything, a book's machine is that of a run, and every call has one
+-- answer. Assumes nothing.
 use mathlib.Core.Path.{_≡_, refl, sym, ap, _∙_, subst}
 use mathlib.Core.Bool.{Bool, true, false, not}
 use mathlib.Core.List.{List, [], _∷_, _++_}
@@ -11,6 +12,7 @@ use Rattle.machine.specs.Words.{pick, table}
 use Rattle.machine.specs.Closed.{closedOf}
 use Rattle.machine.specs.declared.Machine.{Machine}
 use Rattle.machine.specs.declared.Setup.{Setup}
+use Rattle.machine.proofs.Laws.{only}
 use Rattle.machine.proofs.Laws.Every.{length-table}
 use Rattle.rules.specs.declared.Step.{Step}
 use Rattle.runs.specs.Book.{wellFormed, setupRead, homeRead, listRead, actorsRead}
@@ -20,7 +22,7 @@ use Rattle.runs.specs.declared.Drained.{Drained}
 use Rattle.drains.specs.Drains.{Ends, stepsOf, endOf}
 use Rattle.drains.proofs.Courses.{drain-ends}
 use Rattle.guarantees.specs.Acknowledged.{Legal, after}
-use Rattle.guarantees.specs.Guarantees.{Drains, TheDrain, BookRun, Books}
+use Rattle.guarantees.specs.Guarantees.{Drains, TheDrain, BookRun, Books, EveryCall}
 use Rattle.guarantees.proofs.Conditions.{pick-zero}
 use Rattle.guarantees.proofs.Demand.{reached, ran-append}
 
@@ -61,3 +63,17 @@ books s room e = go (eqb (bookNo s room) 0) refl
           machine = rw t;
         }
     go false t = absurd (eqb-false (bookNo s room) 0 t (rw t at e))
+
+pub every-call : EveryCall
+every-call =
+    record {
+      broken = λ m. only _;
+      empty = only _;
+      setup = λ u. only _;
+      status = λ s. only _;
+      step = λ m s. only _;
+      run = λ book room. only _;
+      buffer = λ book buffer. only _;
+      drain = λ m. only _;
+      walk = λ m k. only _;
+    }

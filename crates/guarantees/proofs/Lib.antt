@@ -12,3 +12,4 @@ pub mod Acks
 pub mod Closing
 pub mod Demand
 pub mod Drained
+pub mod Walking

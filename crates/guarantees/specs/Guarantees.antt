@@ -6,16 +6,19 @@ use mathlib.Core.List.{List, [], _∷_, _++_}
 use lib.Dec.{eqb}
 use lib.ListN.{length, getD, take}
 use Rattle.machine.specs.Words.{pick, bit, times}
-use Rattle.machine.specs.Slots.{number, view, contents, causeLinks, viewlink}
+use Rattle.machine.specs.Slots.{number, statusNumber, view, contents, causeLinks, viewlink}
+use Rattle.machine.specs.Setup.{emptyMachine, setupOf}
+use Rattle.machine.specs.Broken.{brokenOf}
 use Rattle.machine.specs.Closed.{closedOf}
 use Rattle.machine.specs.declared.Machine.{Machine}
 use Rattle.machine.specs.declared.View.{View}
 use Rattle.machine.specs.declared.Setup.{Setup}
+use Rattle.machine.specs.declared.Status.{Status}
 use Rattle.rules.specs.Step.{stepOf}
 use Rattle.rules.specs.declared.Step.{Step}
 use Rattle.rules.specs.declared.Step.the-variants.{Send, Receive, PreCheck, SendRecord, Timeout, TakeRecord, TakeAck, PostCheck, TakeRepair, SendUpdate, TakeUpdate, TakeUack, Expire, Lose, Crash, Restart}
 use Rattle.runs.specs.Book.{setupRead}
-use Rattle.runs.specs.Run.{freshOf, runOf, stepsRead}
+use Rattle.runs.specs.Run.{freshOf, runOf, bufferOf, stepsRead}
 use Rattle.runs.specs.Drain.{allUp, drainOf}
 use Rattle.drains.specs.Drains.{stepsOf}
 use Rattle.walk.specs.Walk.{walkOf}
@@ -138,3 +141,20 @@ pub record BookRun (book : List ℕ) (room : ℕ) : Type 0 where
 
 abbrev pub Books : Type 0
 Books = (book : List ℕ) (room : ℕ) → runOf book room .answer ≡ 0 → BookRun book room
+
+-- 9. Every call answers: each public call is a proved function with no `requires`, so it ends for every input; and its promise,
+-- `result ≡ definition of the inputs`, leaves exactly one result. In order: Machine::broken, Machine::empty, Setup::setup,
+-- status_number, Recorder::step (and the joint step_unbroken), run with its buffer, drain, walk.
+abbrev pub Determined : {A : Type 0} → A → Type 0
+Determined {A} d = (x y : A) → x ≡ d → y ≡ d → x ≡ y
+
+pub record EveryCall : Type 0 where
+  pub broken : (m : Machine) → Determined (brokenOf m)
+  pub empty : Determined emptyMachine
+  pub setup : (u : Setup) → Determined (setupOf u)
+  pub status : (s : Status) → Determined (statusNumber s)
+  pub step : (m : Machine) (s : Step) → Determined (stepOf m s)
+  pub run : (book : List ℕ) (room : ℕ) → Determined (runOf book room)
+  pub buffer : (book buffer : List ℕ) → Determined (bufferOf book buffer)
+  pub drain : (m : Machine) → Determined (drainOf m)
+  pub walk : (m : Machine) (k : ℕ) → Determined (walkOf m k)

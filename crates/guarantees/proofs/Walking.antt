@@ -1,0 +1,301 @@
+-- The guarantee 7: where everything is closed, every link of the walk leads to the record that it is meant for, so the walk of
+-- every key is answered; and the causes that the records hold are those that were sent. Assumes nothing.
+use mathlib.Core.Path.{_≡_, refl, sym, ap, _∙_, subst}
+use mathlib.Core.Logic.{_≢_}
+use mathlib.Core.Bool.{Bool, true, false, _&&_, not}
+use mathlib.Core.List.{List, [], _∷_, _++_}
+use Prim.Native.Nat.{ℕ, zero, suc, _+_, _-_, _*_, _≤_, _<_}
+use native.Mathlib.Omega.{arith}
+use native.Mathlib.Decide.{ℕ-discrete, decLt}
+use borrow.Author.Tests.{eqb-true, eqb-false, eq-eqb, ne-eqb, lt-leb}
+use lib.Dec.{eqb, leb}
+use lib.ListN.{length, getD, take}
+use Rattle.machine.specs.Words.{pick, bit, one, times}
+use Rattle.machine.specs.Slots.{number, view, contents, causeLinks, viewlink, home, queue, standing}
+use Rattle.machine.specs.Setup.{answered, freshWith}
+use Rattle.machine.specs.Closed.{closedOf}
+use Rattle.machine.specs.Broken.{brokenOf}
+use Rattle.machine.specs.Unbroken.{Unbroken}
+use Rattle.machine.specs.declared.Machine.{Machine}
+use Rattle.machine.specs.declared.View.{View}
+use Rattle.machine.specs.declared.Setup.{Setup}
+use Rattle.machine.specs.declared.Answered.{Answered}
+use Rattle.machine.proofs.Laws.{unbroken}
+use Rattle.rules.specs.Step.{numberOf, afterOf, ruleOf, stepOf}
+use Rattle.rules.specs.declared.Step.{Step}
+use Rattle.rules.specs.declared.Step.the-variants.{Send, Receive, PreCheck, SendRecord, Timeout, TakeRecord, TakeAck, PostCheck, TakeRepair, SendUpdate, TakeUpdate, TakeUack, Expire, Lose, Crash, Restart}
+use Rattle.runs.specs.Run.{ran, freshOf}
+use Rattle.keeps.specs.Laws.{madeBy}
+use Rattle.keeps.proofs.Laws.{made-counts, sends-new-key}
+use Rattle.guarantees.specs.Acknowledged.{Legal, after}
+use Rattle.guarantees.specs.Guarantees.{causesOf, sentCauses, SentCause, SentReach, Drains, Walks, TheWalk}
+use Rattle.runs.specs.Drain.{allUp, drainOf}
+use Rattle.drains.specs.Drains.{stepsOf}
+use Rattle.reaches.specs.Reaches.{Reach, Cause as Cause′}
+use Rattle.reaches.proofs.Laws.{answered-reaches}
+use Rattle.walk.specs.declared.Met.{Met}
+use Rattle.walk.specs.Walk.{added, spoiled, foundOf, causesHeld, receiptOf, hopOf, each, visitOf, unmet, walkedFrom, answerOf, walkOf}
+use Rattle.guarantees.proofs.Whole.{Everywhere, Here}
+use Rattle.guarantees.proofs.Conditions.{stores8, absurd-eq, send-taken}
+use Rattle.guarantees.proofs.Causes.{Cause, turn-causes}
+use Rattle.guarantees.proofs.Reached.{Reached, Causes, new-sender}
+use Rattle.guarantees.proofs.Steps.{Move, turns-to, unmade, moves, step-reached}
+use Rattle.guarantees.proofs.Demand.{fresh-reached, reached, ran-append}
+use Rattle.guarantees.proofs.Drained.{the-drain}
+use Rattle.guarantees.proofs.Closing.{Rests, closed-of, accurate}
+
+flag : (b : Bool) → one b ≡ 1 → b ≡ true
+flag true e = refl
+flag false e = absurd (let z : ⊥ = omega arith in z)
+
+-- a visit goes on or stays, unless the record isn't found
+stays-fine : (a b c : Bool) (x y z : Met) → c ≡ true → x .fine ≡ true → y .fine ≡ true → pick a x (pick b x (pick c y z)) .fine ≡ true
+stays-fine true b c x y z e f g = f
+stays-fine false true c x y z e f g = f
+stays-fine false false true x y z e f g = g
+stays-fine false false false x y z e f g = absurd-eq (sym e)
+
+module _ (m : Machine) (c : Reached m) (closed : (k : ℕ) → k < m .made → closedOf m k ≡ true) where
+  u : Unbroken m
+  u = unbroken m (c .fine)
+
+  everywhere-at : (k r p : ℕ) → k < m .made → r < 2 → p < 8 → Here m k r p
+  unfolding Everywhere
+  everywhere-at = c .everywhere
+
+  causes-at : (k j : ℕ) → k < m .made → j < 16 → bit (view m (number k 0) .causes) j ≡ true
+      → Cause (home m (view m (number k 0) .actor)) (standing (queue m (view m (number k 0) .actor))) (number j 1) (number k 0) j (view m (number k 0)) (view m (number j 1))
+  unfolding Causes
+  causes-at = c .causes
+
+  -- the store of a settled view, and that it holds the view
+  store-8 : (v : ℕ) → v < 32 → view m v .phase ≡ 5 → view m v .store < 8
+  store-8 v h e = omega (arith, stores8 m u, u .storeIn v h (omega arith))
+
+  held : (k r : ℕ) → k < m .made → r < 2 → view m (number k r) .phase ≡ 5 → contents m (view m (number k r) .store) (number k r) .held ≡ true
+  held k r hk hr e =
+      let hv : number k r < 32 = omega (arith, u .made16) in
+      flag (contents m (view m (number k r) .store) (number k r) .held) (everywhere-at k r (view m (number k r) .store) hk hr (store-8 (number k r) hv e) .keptHeld (omega arith) refl)
+
+  -- a link that names the store of a settled sender finds its record and its causes
+  link : ℕ → ℕ
+  link k = view m (number k 0) .store + 1
+
+  module _ (k : ℕ) (hk : k < m .made) where
+    rests : Rests m (number k 0) × Rests m (number k 1)
+    rests = closed-of m k (closed k hk)
+
+    hv : number k 0 < 32
+    hv = omega (arith, u .made16)
+
+    at-store : (view m (number k 0) .store + 1) - 1 ≡ view m (number k 0) .store
+    at-store = omega arith
+
+    found : foundOf m k (view m (number k 0) .store + 1) ≡ true
+    unfolding foundOf
+    found = rw (ne-eqb (view m (number k 0) .store + 1) 0 (λ e. let z : ⊥ = omega arith in z), at-store, held k 0 hk (omega arith) (rests .0 .phase), closed k hk)
+
+    causes-held : causesHeld m k (view m (number k 0) .store + 1) ≡ view m (number k 0) .causes
+    causes-held =
+        ap (λ (p : ℕ). contents m p (number k 0) .causes) at-store
+        ∙ (u .sameCauses (view m (number k 0) .store) (number k 0) (store-8 (number k 0) hv (rests .0 .phase)) hv (held k 0 hk (omega arith) (rests .0 .phase)))
+
+    below : (j : ℕ) → j < 16 → bit (view m (number k 0) .causes) j ≡ true → j < k
+    below j hj b = omega (arith, u .causeBelow (number k 0) j hv hj b)
+
+    -- by the cause link to the receipt, by its viewlink to the opposite sender's record
+    hop : (j : ℕ) → j < 16 → bit (view m (number k 0) .causes) j ≡ true → hopOf m k (view m (number k 0) .store + 1) j ≡ view m (number j 0) .store + 1
+    unfolding hopOf receiptOf
+    hop j hj b =
+        let p = view m (number k 0) .store in
+        let q = view m (number j 1) .store in
+        let hp = store-8 (number k 0) hv (rests .0 .phase) in
+        let lj : j < m .made = omega (arith, below j hj b) in
+        let r = closed-of m j (closed j lj) in
+        let a : getD (causeLinks m p k) j 0 ≡ q = u .sameLinks p k j hp (omega (arith, u .made16)) hj (held k 0 hk (omega arith) (rests .0 .phase)) ∙ causes-at k j hk hj b .right (omega (arith, rests .0 .phase)) in
+        rw (at-store, a, held j 1 lj (omega arith) (r .1 .phase)) (accurate m u (c .everywhere) j 1 (omega arith) (r .1) (r .0))
+
+  each-fine : (visit : ℕ → Met → Met) (causes n j : ℕ) (w : Met) → ((i : ℕ) (x : Met) → i < j + n → bit causes i ≡ true → x .fine ≡ true → visit i x .fine ≡ true) → w .fine ≡ true → each visit causes n j w .fine ≡ true
+  unfolding each
+  each-fine visit causes zero j w f h = h
+  each-fine visit causes (suc n) j w f h = each-fine visit causes n (j + 1) (pick (bit causes j) (visit j w) w) (λ i x l b g. f i x (omega arith) b g) (go (bit causes j) refl)
+    where
+      go : (b : Bool) → bit causes j ≡ b → pick b (visit j w) w .fine ≡ true
+      go true e = f j w (omega arith) e h
+      go false e = h
+
+  visit-fine : (depth k : ℕ) (w : Met) → k < m .made → w .fine ≡ true → visitOf depth m k (view m (number k 0) .store + 1) w .fine ≡ true
+  unfolding visitOf
+  visit-fine zero k w hk h = h
+  visit-fine (suc depth) k w hk h =
+      stays-fine (not (w .fine)) (getD (w .met) k false) (foundOf m k (view m (number k 0) .store + 1)) w
+      (each (λ j. visitOf depth m j (hopOf m k (view m (number k 0) .store + 1) j)) (causesHeld m k (view m (number k 0) .store + 1)) k 0 (added w k)) (spoiled w)
+      (found k hk) h (onward (λ i x l g. visit-fine depth i x l g))
+    where
+      onward : ((i : ℕ) (x : Met) → i < m .made → x .fine ≡ true → visitOf depth m i (view m (number i 0) .store + 1) x .fine ≡ true)
+          → each (λ j. visitOf depth m j (hopOf m k (view m (number k 0) .store + 1) j)) (causesHeld m k (view m (number k 0) .store + 1)) k 0 (added w k) .fine ≡ true
+      onward f =
+          each-fine (λ j. visitOf depth m j (hopOf m k (view m (number k 0) .store + 1) j)) (causesHeld m k (view m (number k 0) .store + 1)) k 0 (added w k)
+          (λ i x l b g.
+          let li : i < 16 = omega (arith, u .made16) in
+          subst (λ (y : ℕ). visitOf depth m i y x .fine ≡ true) (sym (hop k hk i li (subst (λ (s : ℕ). bit s i ≡ true) (causes-held k hk) b))) (f i x (omega arith) g)) h
+
+  pub walk-answered : (k : ℕ) → k < m .made → walkOf m k .answer ≡ 0
+  unfolding walkOf walkedFrom
+  walk-answered k hk = rw (c .fine, lt-leb (m .made) k hk, visit-fine 16 k unmet hk refl)
+
+-- the causes that a record holds are those of its send: a run from m keeps those of its interactions, and adds the later ones
+record Sent (m : Machine) (steps : List Step) : Type 0 where
+  old : (k : ℕ) → k < m .made → view (ran m steps) (number k 0) .causes ≡ view m (number k 0) .causes
+  new : (k : ℕ) → m .made ≤ k → k < ran m steps .made → getD (sentCauses m steps) (k - m .made) 0 ≡ view (ran m steps) (number k 0) .causes
+  grown : m .made ≤ ran m steps .made
+
+-- one step: nothing is sent, or a send is taken whose interaction comes next
+data Sending (m : Machine) (s : Step) : Type 0 where
+  nothing : stepOf m s .machine .made ≡ m .made → pick (eqb (stepOf m s .answer) 0) (causesOf s) [] ≡ [] → Sending m s
+  sends : (causes : ℕ) → stepOf m s .machine .made ≡ m .made + 1 → pick (eqb (stepOf m s .answer) 0) (causesOf s) [] ≡ causes ∷ []
+      → view (stepOf m s .machine) (number (m .made) 0) .causes ≡ causes → Sending m s
+
+none-sent : (s : Step) → causesOf s ≡ [] → (b : Bool) → pick b (causesOf s) [] ≡ []
+none-sent s e true = e
+none-sent s e false = refl
+
+taken-step : (m : Machine) (s : Step) → brokenOf m ≡ false → numberOf m s ≡ 0 → stepOf m s ≡ answered 0 (afterOf m s)
+unfolding stepOf ruleOf
+taken-step m s b e = rw (b, eq-eqb (numberOf m s) 0 e)
+
+refused-step : (m : Machine) (s : Step) → brokenOf m ≡ false → numberOf m s ≢ 0 → stepOf m s ≡ answered (numberOf m s) m
+unfolding stepOf ruleOf
+refused-step m s b n = rw (b, ne-eqb (numberOf m s) 0 n)
+
+module _ (m : Machine) (c : Reached m) where
+  other-kind : (s : Step) → numberOf m s ≡ 0 → causesOf s ≡ [] → madeBy m s ≡ m .made → Sending m s
+  other-kind s e f g =
+      nothing (ap (λ (a : Answered). a .machine .made) (taken-step m s (c .fine) e) ∙ made-counts m s ∙ g) (none-sent s f (eqb (stepOf m s .answer) 0))
+
+  taken : (s : Step) → numberOf m s ≡ 0 → Sending m s
+  taken (Send from to own word causes) e =
+      let x = taken-step m (Send from to own word causes) (c .fine) e in
+      let y = ap (λ (a : Answered). a .answer) x in
+      sends causes (ap (λ (a : Answered). a .machine .made) x ∙ made-counts m (Send from to own word causes)) (rw (eq-eqb (stepOf m (Send from to own word causes) .answer) 0 y))
+      (ap (λ (a : Answered). view (a .machine) (number (m .made) 0) .causes) x ∙ ap (λ (w : View). w .causes) (new-sender m c from to own word causes (send-taken m from to own causes e .room)))
+  taken (Receive k) e = other-kind (Receive k) e refl refl
+  taken (PreCheck a) e = other-kind (PreCheck a) e refl refl
+  taken (SendRecord a) e = other-kind (SendRecord a) e refl refl
+  taken (Timeout a p) e = other-kind (Timeout a p) e refl refl
+  taken (TakeRecord p k r) e = other-kind (TakeRecord p k r) e refl refl
+  taken (TakeAck p k r) e = other-kind (TakeAck p k r) e refl refl
+  taken (PostCheck a) e = other-kind (PostCheck a) e refl refl
+  taken (TakeRepair k r) e = other-kind (TakeRepair k r) e refl refl
+  taken (SendUpdate k r) e = other-kind (SendUpdate k r) e refl refl
+  taken (TakeUpdate p k r) e = other-kind (TakeUpdate p k r) e refl refl
+  taken (TakeUack p k r) e = other-kind (TakeUack p k r) e refl refl
+  taken (Expire k r) e = other-kind (Expire k r) e refl refl
+  taken (Lose what p k r) e = other-kind (Lose what p k r) e refl refl
+  taken (Crash p) e = other-kind (Crash p) e refl refl
+  taken (Restart p) e = other-kind (Restart p) e refl refl
+
+  sending : (s : Step) → Sending m s
+  sending s = go (ℕ-discrete (numberOf m s) 0)
+    where
+      go : Dec (numberOf m s ≡ 0) → Sending m s
+      go (yes e) = taken s e
+      go (no n) =
+          let x = refused-step m s (c .fine) n in
+          let y : stepOf m s .answer ≢ 0 = λ z. n (sym (ap (λ (a : Answered). a .answer) x) ∙ z) in
+          nothing (ap (λ (a : Answered). a .machine .made) x) (rw (ne-eqb (stepOf m s .answer) 0 y))
+
+  -- the causes of an interaction that is there stay
+  causes-stay : (s : Step) (k : ℕ) → k < m .made → view (stepOf m s .machine) (number k 0) .causes ≡ view m (number k 0) .causes
+  causes-stay s k h = go (moves m c s (number k 0))
+    where
+      there : 1 ≤ view m (number k 0) .phase
+      there = unbroken m (c .fine) .senderMade k h
+
+      go : Move m s (stepOf m s .machine) (number k 0) → view (stepOf m s .machine) (number k 0) .causes ≡ view m (number k 0) .causes
+      go (turns-to t) = turn-causes t there
+      go (unmade z) = absurd (omega (arith, z .before, there))
+
+front : (b : Bool) (l rest : List ℕ) → pick b (l ++ rest) rest ≡ pick b l [] ++ rest
+front true l rest = refl
+front false l rest = refl
+
+sent-run : (steps : List Step) (m : Machine) → Reached m → Sent m steps
+unfolding ran sentCauses
+sent-run [] m c = record { old = λ k h. refl; new = λ k h g. absurd (let z : ⊥ = omega arith in z); grown = omega arith }
+sent-run (s ∷ steps) m c = go (sending m c s) (sent-run steps (stepOf m s .machine) (step-reached m c s))
+  where
+    n : Machine
+    n = stepOf m s .machine
+
+    go : Sending m s → Sent (stepOf m s .machine) steps → Sent m (s ∷ steps)
+    go (nothing e f) r =
+        record {
+          old = λ k h. r .old k (omega arith) ∙ causes-stay m c s k h;
+          new = λ k h g.
+              let z : k - m .made ≡ k - stepOf m s .machine .made = omega arith in
+              rw (front (eqb (stepOf m s .answer) 0) (causesOf s) (sentCauses (stepOf m s .machine) steps), f, z) (r .new k (omega arith) g);
+          grown = omega (arith, r .grown);
+        }
+    go (sends causes e f v) r =
+        record {
+          old = λ k h. r .old k (omega arith) ∙ causes-stay m c s k h;
+          new = λ k h g. rw (front (eqb (stepOf m s .answer) 0) (causesOf s) (sentCauses (stepOf m s .machine) steps), f) (at k h g (ℕ-discrete k (m .made)));
+          grown = omega (arith, r .grown);
+        }
+      where
+        at : (k : ℕ) → m .made ≤ k → k < ran (stepOf m s .machine) steps .made → Dec (k ≡ m .made) → getD (causes ∷ sentCauses (stepOf m s .machine) steps) (k - m .made) 0 ≡ view (ran (stepOf m s .machine) steps) (number k 0) .causes
+        at k h g (yes x) =
+            let z : k - m .made ≡ 0 = omega arith in
+            rw z (sym (r .old k (omega arith) ∙ ap (λ (i : ℕ). view (stepOf m s .machine) (number i 0) .causes) x ∙ v))
+        at k h g (no x) =
+            let z : k - m .made ≡ suc (k - stepOf m s .machine .made) = omega arith in
+            rw z (r .new k (omega arith) g)
+
+module _ (u : Setup) (l : Legal u) (steps : List Step) (up : allUp (after u steps) ≡ true) where
+  drained : Drains u steps
+  drained = the-drain u l steps up
+
+  -- the drained machine is reached by a run, and everything in it is closed
+  final : Reached (drainOf (after u steps) .machine)
+  final = subst Reached (sym (drained .run)) (reached u l (steps ++ stepsOf (after u steps)))
+
+  final-closed : (k : ℕ) → k < drainOf (after u steps) .machine .made → closedOf (drainOf (after u steps) .machine) k ≡ true
+  final-closed k h = drained .closes k (omega (arith, drained .made))
+
+  -- what the records of the drained machine hold was sent
+  as-sent : (k : ℕ) → k < after u steps .made → view (drainOf (after u steps) .machine) (number k 0) .causes ≡ getD (sentCauses (freshOf u) steps) k 0
+  unfolding freshWith
+  as-sent k h =
+      let z : k - 0 ≡ k = omega arith in
+      let a = sent-run steps (freshOf u) (fresh-reached u l) .new k (omega arith) h in
+      ap (λ (m : Machine). view m (number k 0) .causes) (drained .run ∙ ran-append (freshOf u) steps (stepsOf (after u steps)))
+      ∙ sent-run (stepsOf (after u steps)) (after u steps) (reached u l steps) .old k h
+      ∙ sym (ap (λ (i : ℕ). getD (sentCauses (freshOf u) steps) i 0) (sym z) ∙ a)
+
+  -- so what is reached over the one is reached over the other
+  to-sent : (k i : ℕ) → k < after u steps .made → Reach (drainOf (after u steps) .machine) k i → SentReach u steps k i
+  to-sent k i h Reach.here = SentReach.here
+  to-sent k i h (Reach.by {j = j} c r) =
+      let b : j < k = omega (arith, unbroken (drainOf (after u steps) .machine) (final .fine) .causeBelow (number k 0) j (omega (arith, unbroken (after u steps) (reached u l steps .fine) .made16)) (c .low) (c .set)) in
+      let d : SentCause u steps k j = record { low = c .low; set = rw (← as-sent k h) (c .set) } in
+      SentReach.by d (to-sent j i (omega arith) r)
+
+  of-sent : (k i : ℕ) → k < after u steps .made → SentReach u steps k i → Reach (drainOf (after u steps) .machine) k i
+  of-sent k i h SentReach.here = Reach.here
+  of-sent k i h (SentReach.by {j = j} c r) =
+      let d : Cause′ (drainOf (after u steps) .machine) k j = record { low = c .low; set = rw (as-sent k h) (c .set) } in
+      let b : j < k = omega (arith, unbroken (drainOf (after u steps) .machine) (final .fine) .causeBelow (number k 0) j (omega (arith, unbroken (after u steps) (reached u l steps .fine) .made16)) (c .low) (d .set)) in
+      Reach.by d (of-sent j i (omega arith) r)
+
+pub the-walk : TheWalk
+the-walk u l steps up k h =
+    let m = drainOf (after u steps) .machine in
+    let f = final u l steps up in
+    let a = walk-answered m f (final-closed u l steps up) k (omega (arith, the-drain u l steps up .made)) in
+    let r = answered-reaches m k (walkOf m k) refl a in
+    record {
+      answered = a;
+      once = λ i s. r .once i (of-sent u l steps up k i h s);
+      only = λ i t. to-sent u l steps up k i h (r .only i t);
+    }
