@@ -2,24 +2,22 @@
 use mathlib.Core.Path.{_≡_, refl, sym, ap, _∙_, subst}
 use mathlib.Core.Logic.{_≢_}
 use mathlib.Core.Bool.{Bool, true, false, _&&_, not}
-use mathlib.Core.List.{List, [], _∷_, _++_}
-use Prim.Native.Nat.{ℕ, zero, suc, _+_, _-_, _*_, _≤_, _<_}
+use mathlib.Core.List.{List, [], _∷_}
+use Prim.Native.Nat.{ℕ, _≤_, _<_}
 use native.Mathlib.Omega.{arith}
 use native.Mathlib.Decide.{ℕ-discrete, decLt}
-use borrow.Author.Tests.{eq-eqb, ne-eqb, eqb-true, eqb-false, not-true}
+use borrow.Author.Tests.{eq-eqb, ne-eqb}
 use lib.Dec.{eqb}
 use lib.ListN.{length}
 use Rattle.machine.specs.Words.{pick}
 use Rattle.machine.specs.Slots.{number, view}
-use Rattle.machine.specs.Broken.{brokenOf}
 use Rattle.machine.specs.declared.Machine.{Machine}
 use Rattle.machine.specs.declared.View.{View}
-use Rattle.rules.specs.Step.{numberOf, afterOf, stepOf}
+use Rattle.rules.specs.Step.{stepOf}
 use Rattle.rules.specs.declared.Step.{Step}
 use Rattle.rules.specs.declared.Step.the-variants.{Send, Receive, PreCheck, SendRecord, Timeout, TakeRecord, TakeAck, PostCheck, TakeRepair, SendUpdate, TakeUpdate, TakeUack, Expire, Lose, Crash, Restart}
 use Rattle.runs.specs.Run.{ran}
 use Rattle.guarantees.specs.Acknowledged.{accepted, acknowledged}
-use Rattle.guarantees.proofs.Conditions.{and-true}
 use Rattle.guarantees.proofs.Turns.{Turn, stays, received, checked, sends, moved, acked, settled}
 use Rattle.guarantees.proofs.Reached.{Reached}
 use Rattle.guarantees.proofs.Steps.{Move, turns-to, unmade, step-reached, moves}

@@ -2,29 +2,26 @@
 -- receipt, which is settled. Kept by every rule. Assumes nothing.
 use mathlib.Core.Path.{_≡_, refl, sym, ap, _∙_, subst}
 use mathlib.Core.Logic.{_≢_}
-use mathlib.Core.Bool.{Bool, true, false, _&&_, _||_, not}
+use mathlib.Core.Bool.{Bool, true, false}
 use mathlib.Core.List.{List, [], _∷_, _++_}
-use Prim.Native.Nat.{ℕ, zero, suc, _+_, _-_, _*_, _/_, _≤_, _<_}
+use Prim.Native.Nat.{ℕ, zero, suc, _+_, _≤_, _<_}
 use native.Mathlib.Omega.{arith}
 use native.Mathlib.Decide.{ℕ-discrete}
-use borrow.Author.Tests.{eq-eqb, eqb-true, eqb-false, ltb-true}
+use borrow.Author.Tests.{eq-eqb, eqb-true}
 use lib.Dec.{eqb}
-use lib.ListN.{length, getD, set, take, length-set}
-use lib.Seq.{getD-set-same, getD-set-other}
-use Rattle.machine.specs.Words.{pick, bit, one, table, times}
-use Rattle.machine.specs.Slots.{number, queue, standing, view, home, noView}
+use lib.ListN.{length, getD, take}
+use Rattle.machine.specs.Words.{bit, one, times}
+use Rattle.machine.specs.Slots.{number, queue, standing, view, home}
 use Rattle.machine.specs.Unbroken.{Unbroken}
-use Rattle.machine.specs.Bounds.{Bounds}
 use Rattle.machine.specs.declared.Machine.{Machine}
 use Rattle.machine.specs.declared.View.{View}
 use Rattle.machine.specs.declared.Queue.{Queue}
-use Rattle.rules.specs.Rule.{head, phased}
-use Rattle.rules.specs.PreCheck.{checkedLink, checkedView}
+use Rattle.rules.specs.Rule.{head}
+use Rattle.rules.specs.PreCheck.{checkedLink}
 use Rattle.rules.specs.declared.Step.{Step}
 use Rattle.machine.proofs.Laws.Every.{table-at}
 use Rattle.guarantees.proofs.Conditions.{actors8}
 use Rattle.guarantees.proofs.Turns.{Turn, stays, received, checked, sends, moved, acked, settled}
-use Rattle.guarantees.proofs.Queues.{Line, same, longer, shorter}
 
 -- y stands in a list; x stands before y
 pub data In (y : ℕ) : List ℕ → Type 0 where

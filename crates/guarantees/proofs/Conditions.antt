@@ -1,9 +1,9 @@
 -- What is known when a rule is taken: its conditions as plain facts, and that a head is a view of this machine. Assumes nothing.
-use mathlib.Core.Path.{_≡_, refl, sym, ap, _∙_, subst}
+use mathlib.Core.Path.{_≡_, refl, sym, subst}
 use mathlib.Core.Logic.{_≢_}
 use mathlib.Core.List.{List}
 use mathlib.Core.Bool.{Bool, true, false, _&&_, _||_, not}
-use Prim.Native.Nat.{ℕ, zero, suc, _+_, _-_, _*_, _/_, _%_, _≤_, _<_}
+use Prim.Native.Nat.{ℕ, suc, _-_, _*_, _/_, _%_, _≤_, _<_}
 use native.Mathlib.Omega.{arith}
 use native.Mathlib.Decide.{decLt}
 use borrow.Author.Tests.{leb-false, eqb-true, eqb-false, not-true, not-false}
@@ -28,7 +28,7 @@ use Rattle.rules.specs.TakeUpdate.{takeUpdateNo}
 use Rattle.rules.specs.TakeUack.{takeUackNo}
 use Rattle.rules.specs.Expire.{expireNo}
 use Rattle.rules.specs.Lose.{loseNo}
-use Rattle.rules.specs.Rule.{head, headView, headIn, outside, refused, taken}
+use Rattle.rules.specs.Rule.{head, headView, headIn, outside}
 
 pub absurd-eq : {A : Type 0} → true ≡ false → A
 absurd-eq e = absurd (subst T e tt)

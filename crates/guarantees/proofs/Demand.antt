@@ -1,26 +1,23 @@
 -- The guarantees 1 to 5, from the invariant that every run keeps. Assumes nothing.
 use mathlib.Core.Path.{_≡_, refl, sym, ap, _∙_, subst}
-use mathlib.Core.Logic.{_≢_}
 use mathlib.Core.Bool.{Bool, true, false}
 use mathlib.Core.List.{List, [], _∷_, _++_}
-use Prim.Native.Nat.{ℕ, zero, suc, _+_, _-_, _*_, _/_, _≤_, _<_}
+use Prim.Native.Nat.{ℕ, _-_, _*_, _≤_, _<_}
 use native.Mathlib.Omega.{arith}
 use native.Mathlib.Decide.{ℕ-discrete, decLt}
-use lib.ListN.{length, getD, List·getD-eq-default}
+use lib.ListN.{length, getD}
 use Rattle.machine.specs.Words.{bit, one}
-use Rattle.machine.specs.Slots.{home, queue, standing, number, view, contents, causeLinks, viewlink, ackCopies, noView}
+use Rattle.machine.specs.Slots.{home, queue, standing, number, view, contents, causeLinks}
 use Rattle.machine.specs.Setup.{freshWith}
 use Rattle.machine.specs.Closed.{closedOf}
-use Rattle.machine.specs.Broken.{brokenOf}
 use Rattle.machine.specs.Unbroken.{Unbroken}
 use Rattle.machine.specs.declared.Machine.{Machine}
-use Rattle.machine.specs.declared.View.{View}
 use Rattle.machine.specs.declared.Contents.{Contents}
 use Rattle.machine.specs.declared.Setup.{Setup}
 use Rattle.machine.proofs.Laws.{unbroken, fresh-unbroken}
+use Rattle.keeps.proofs.Onward.{step-onward, closed-stays}
 use Rattle.rules.specs.Step.{stepOf}
 use Rattle.rules.specs.declared.Step.{Step}
-use Rattle.rules.specs.declared.Step.the-variants.{TakeAck}
 use Rattle.runs.specs.Run.{ran, freshOf}
 use Rattle.guarantees.specs.Acknowledged.{Legal, after, accepted, acknowledged, AckedBy}
 use Rattle.guarantees.specs.Guarantees.{OneAcknowledgement, Holds, KeptForEver, CauseLinks, StaysClosed, ViewLinks}
@@ -30,9 +27,9 @@ use Rattle.guarantees.proofs.Causes.{Cause, turn-actor, turn-word, turn
 use Rattle.guarantees.proofs.Rules.{Homes}
 use Rattle.guarantees.proofs.Conditions.{view-made, stores8}
 use Rattle.guarantees.proofs.Reached.{Reached, Causes}
-use Rattle.guarantees.proofs.Steps.{Move, turns-to, unmade, step-reached, moves, held-stays, links-stay}
+use Rattle.guarantees.proofs.Steps.{Move, turns-to, unmade, step-reached, moves}
 use Rattle.guarantees.proofs.Acks.{Ack, past, now, yet, ack, accepting, run-reached, stays-past, comes-to}
-use Rattle.guarantees.proofs.Closing.{Rests, closed-of, accurate, stays-closed}
+use Rattle.guarantees.proofs.Closing.{Rests, closed-of, accurate}
 
 -- a fresh machine has nothing that could be wrong
 pub fresh-reached : (u : Setup) → Legal u → Reached (freshOf u)
@@ -66,20 +63,20 @@ held-run : (m : Machine) → Reached m → (ss : List Step) (p v : ℕ) → p < 
 unfolding ran
 held-run m c [] p v hp hv h = refl
 held-run m c (s ∷ ss) p v hp hv h =
-    let e = held-stays m (c .fine) s p v hp hv h in
+    let e = step-onward m s .held p v hp hv h in
     held-run (stepOf m s .machine) (step-reached m c s) ss p v hp hv (ap (λ (x : Contents). x .held) e ∙ h) ∙ e
 
 links-run : (m : Machine) → Reached m → (ss : List Step) (p k : ℕ) → p < 8 → k < 16 → contents m p (number k 0) .held ≡ true → causeLinks (ran m ss) p k ≡ causeLinks m p k
 unfolding ran
 links-run m c [] p k hp hk h = refl
 links-run m c (s ∷ ss) p k hp hk h =
-    let e = held-stays m (c .fine) s p (number k 0) hp (omega arith) h in
-    links-run (stepOf m s .machine) (step-reached m c s) ss p k hp hk (ap (λ (x : Contents). x .held) e ∙ h) ∙ links-stay m (c .fine) s p k hp hk h
+    let e = step-onward m s .held p (number k 0) hp (omega arith) h in
+    links-run (stepOf m s .machine) (step-reached m c s) ss p k hp hk (ap (λ (x : Contents). x .held) e ∙ h) ∙ step-onward m s .links p k hp hk h
 
 closed-run : (m : Machine) → Reached m → (ss : List Step) (k : ℕ) → closedOf m k ≡ true → closedOf (ran m ss) k ≡ true
 unfolding ran
 closed-run m c [] k h = h
-closed-run m c (s ∷ ss) k h = closed-run (stepOf m s .machine) (step-reached m c s) ss k (stays-closed m (c .fine) s k h)
+closed-run m c (s ∷ ss) k h = closed-run (stepOf m s .machine) (step-reached m c s) ss k (closed-stays m s k h)
 
 -- an accepting step, as the turn that it is
 record Accepting (m : Machine) (s : Step) (v p : ℕ) : Type 0 where

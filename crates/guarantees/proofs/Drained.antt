@@ -1,14 +1,12 @@
 -- The guarantees 6, 8 and 9: a drain is a run that closes everything, a book's machine is that of a run, and every call has one
 -- answer. Assumes nothing.
-use mathlib.Core.Path.{_≡_, refl, sym, ap, _∙_, subst}
+use mathlib.Core.Path.{_≡_, refl, sym, ap, _∙_}
 use mathlib.Core.Bool.{Bool, true, false, not}
-use mathlib.Core.List.{List, [], _∷_, _++_}
-use Prim.Native.Nat.{ℕ, _*_, _≤_, _<_}
-use native.Mathlib.Omega.{arith}
+use mathlib.Core.List.{List}
 use borrow.Author.Tests.{eqb-true, eqb-false, not-false}
 use lib.Dec.{eqb, ltb}
 use lib.ListN.{length}
-use Rattle.machine.specs.Words.{pick, table}
+use Rattle.machine.specs.Words.{pick}
 use Rattle.machine.specs.Closed.{closedOf}
 use Rattle.machine.specs.declared.Machine.{Machine}
 use Rattle.machine.specs.declared.Setup.{Setup}
@@ -16,13 +14,13 @@ use Rattle.machine.proofs.Laws.{only}
 use Rattle.machine.proofs.Laws.Every.{length-table}
 use Rattle.rules.specs.declared.Step.{Step}
 use Rattle.runs.specs.Book.{wellFormed, setupRead, homeRead, listRead, actorsRead}
-use Rattle.runs.specs.Run.{ran, freshOf, legalSetup, stepsRead, bookNo, runOf}
-use Rattle.runs.specs.Drain.{allUp, drainOf}
+use Rattle.runs.specs.Run.{freshOf, legalSetup, stepsRead, bookNo, runOf}
+use Rattle.runs.specs.Drain.{allUp}
 use Rattle.runs.specs.declared.Drained.{Drained}
-use Rattle.drains.specs.Drains.{Ends, stepsOf, endOf}
+use Rattle.drains.specs.Drains.{Ends, stepsOf}
 use Rattle.drains.proofs.Courses.{drain-ends}
 use Rattle.guarantees.specs.Acknowledged.{Legal, after}
-use Rattle.guarantees.specs.Guarantees.{Drains, TheDrain, BookRun, Books, EveryCall}
+use Rattle.guarantees.specs.Guarantees.{TheDrain, BookRun, Books, EveryCall}
 use Rattle.guarantees.proofs.Conditions.{pick-zero}
 use Rattle.guarantees.proofs.Demand.{reached, ran-append}
 

@@ -1,9 +1,8 @@
 -- What is true of an interaction at a store in every machine that a run reaches, as one record of small implications about
 -- a view, its place there, and the other view; and that each change a step can make keeps it. Assumes nothing.
-use mathlib.Core.Path.{_≡_, refl, sym, _∙_}
-use Prim.Native.Nat.{ℕ, zero, suc, _+_, _-_, _≤_, _<_}
+use mathlib.Core.Path.{_≡_, refl}
+use Prim.Native.Nat.{ℕ, zero, suc, _+_, _≤_, _<_}
 use native.Mathlib.Omega.{arith}
-use native.Mathlib.Decide.{ℕ-discrete}
 use Rattle.machine.specs.Words.{pick}
 use lib.Dec.{eqb, eqb·suc-zero}
 

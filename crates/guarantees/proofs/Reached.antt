@@ -2,16 +2,16 @@
 -- Kept by every step, and true of a fresh machine. Assumes nothing.
 use mathlib.Core.Path.{_≡_, refl, sym, ap, _∙_, subst}
 use mathlib.Core.Logic.{_≢_}
-use mathlib.Core.Bool.{Bool, true, false, _&&_, _||_, not}
+use mathlib.Core.Bool.{Bool, true, false, _&&_, not}
 use mathlib.Core.List.{List, [], _∷_, _++_}
-use Prim.Native.Nat.{ℕ, zero, suc, _+_, _-_, _*_, _/_, _≤_, _<_}
+use Prim.Native.Nat.{ℕ, _-_, _≤_, _<_}
 use native.Mathlib.Omega.{arith}
-use native.Mathlib.Decide.{ℕ-discrete, decLt}
-use borrow.Author.Tests.{eqb-true, eqb-false, ltb-true, not-true, not-false}
+use native.Mathlib.Decide.{decLt}
+use borrow.Author.Tests.{eqb-true, eqb-false, ltb-true, not-true}
 use lib.Dec.{eqb, ltb}
-use lib.ListN.{length, getD, set, length-set}
+use lib.ListN.{getD, set, length-set}
 use lib.Seq.{getD-set-same, getD-set-other}
-use Rattle.machine.specs.Words.{pick, bit, one, table, allBelow, times}
+use Rattle.machine.specs.Words.{pick, bit, one, times}
 use Rattle.machine.specs.Slots.{number, queue, standing, view, home, noView, noQueue}
 use Rattle.machine.specs.Writes.{withRecordCopies, withAckCopies, withUpdateCopies, withUackCopies}
 use Rattle.machine.specs.Broken.{brokenOf}
@@ -40,13 +40,12 @@ use Rattle.rules.specs.Restart.{restarted}
 use Rattle.rules.specs.Step.{numberOf, afterOf}
 use Rattle.rules.specs.declared.Step.{Step}
 use Rattle.rules.specs.declared.Step.the-variants.{Send, Receive, PreCheck, SendRecord, Timeout, TakeRecord, TakeAck, PostCheck, TakeRepair, SendUpdate, TakeUpdate, TakeUack, Expire, Lose, Crash, Restart}
-use Rattle.guarantees.proofs.Local.{Good}
 use Rattle.guarantees.proofs.Whole.{Everywhere}
 use Rattle.guarantees.proofs.Conditions.{and-true, actors8, send-taken}
 use Rattle.guarantees.proofs.Rules.{Homes, here, sends, receives, pre-checks, sends-record, times-out, takes-record, takes-ack, post-checks, takes-repair, sends-update, takes-update, takes-uack, expires, loses, goes-up-or-down}
-use Rattle.guarantees.proofs.Turns.{Turn, turns}
+use Rattle.guarantees.proofs.Turns.{turns}
 use Rattle.guarantees.proofs.Queues.{Line, same, longer, shorter, lines, joined-stands}
-use Rattle.guarantees.proofs.Causes.{Cause, Ahead, ahead-last, ahead-longer, ahead-shorter, times-in, turn-actor, turn-made, turn-viewlink, turn-causes, keep}
+use Rattle.guarantees.proofs.Causes.{Cause, Ahead, ahead-last, ahead-longer, ahead-shorter, times-in, turn-actor, turn-viewlink, turn-causes, keep}
 
 unfoldable pub Causes : Machine → Type 0
 Causes m =

@@ -1,18 +1,17 @@
 -- Every rule keeps the local record everywhere, and the sender's viewlink the receiver's home. Assumes nothing.
 use mathlib.Core.Path.{_≡_, refl, sym, ap, _∙_, subst}
 use mathlib.Core.Logic.{_≢_}
-use mathlib.Core.Bool.{Bool, true, false, _&&_, not}
+use mathlib.Core.Bool.{Bool, true, false, _&&_}
 use mathlib.Core.List.{List}
-use Prim.Native.Nat.{ℕ, zero, suc, _+_, _-_, _*_, _/_, _%_, _≤_, _<_}
+use Prim.Native.Nat.{ℕ, suc, _+_, _-_, _*_, _≤_, _<_}
 use native.Mathlib.Omega.{arith}
-use native.Mathlib.Decide.{ℕ-discrete}
-use borrow.Author.Tests.{not-false, eqb-true, eqb-false, eq-eqb, ne-eqb}
+use borrow.Author.Tests.{not-false, eqb-true, eqb-false}
 use lib.Dec.{eqb}
-use lib.ListN.{length, getD, set, length-set}
+use lib.ListN.{length, set, length-set}
 use lib.Seq.{getD-set-same, getD-set-other, set-getD}
 use Rattle.machine.specs.Words.{pick, one}
 use Rattle.machine.specs.Slots.{noEntry, noRepair, noMessage, recordCopies, number, place, statusNumber, home, view, repair, entry, message, contents, viewlink, ackCopies, updateCopies, uackCopies, noView}
-use Rattle.machine.specs.Writes.{withUpAt, withRecordCopies, withView, withRepair, withEntry, withEntries, withRecords, withLinks, withQueues, withAckCopies, withUpdateCopies, withUackCopies, withContentsAt, withViewlink}
+use Rattle.machine.specs.Writes.{withUpAt, withRecordCopies, withView, withRepair, withEntry, withEntries, withRecords, withLinks, withQueues, withAckCopies, withUpdateCopies, withUackCopies, withViewlink}
 use Rattle.machine.specs.EverySlot.{Sized}
 use Rattle.machine.specs.Unbroken.{Unbroken}
 use Rattle.machine.specs.declared.Machine.{Machine}
@@ -32,17 +31,17 @@ use Rattle.rules.specs.Timeout.{timeoutNo, timedOut, movedView}
 use Rattle.rules.specs.TakeRecord.{takeRecordNo, recordTaken, writtenContents, writtenViewlink}
 use Rattle.rules.specs.TakeAck.{takeAckNo, ackTaken, accepts, isHead, ackedView}
 use Rattle.rules.specs.PostCheck.{postCheckNo, postChecked, askedRepair}
-use Rattle.rules.specs.TakeRepair.{takeRepairNo, repairTaken, repairedEntry, redirectedEntry, entered, toSend}
+use Rattle.rules.specs.TakeRepair.{takeRepairNo, repairTaken, entered, toSend}
 use Rattle.rules.specs.SendUpdate.{sendUpdateNo, updateSent, inStatus}
 use Rattle.rules.specs.TakeUpdate.{takeUpdateNo, updateTaken}
 use Rattle.rules.specs.TakeUack.{takeUackNo, uackTaken, finishedEntry}
 use Rattle.rules.specs.Expire.{expireNo, expired}
-use Rattle.rules.specs.Lose.{loseNo, lost, copies, withCopies}
+use Rattle.rules.specs.Lose.{loseNo, lost}
 use Rattle.guarantees.proofs.Local
-use Rattle.guarantees.proofs.Local.{Job, Cell, Good, countedCell}
-use Rattle.guarantees.proofs.Whole.{job, jobOf, cell, Here, Everywhere, Touch, touched}
+use Rattle.guarantees.proofs.Local.{Job, Good}
+use Rattle.guarantees.proofs.Whole.{job, jobOf, cell, Here, Everywhere, touched}
 use Rattle.guarantees.proofs.Touches.{withPlace, at-store, at-stores, update-touch, view-touch, repair-touch, entries-touch, entry-touch, place-touch}
-use Rattle.guarantees.proofs.Conditions.{stores8, send-taken, receive-taken, not-flip, Headed, Placed, keyOf, roleOf, other, and-true, pre-check-taken, send-record-taken, post-check-taken, timeout-taken, take-record-taken, take-ack-taken, take-update-taken, take-uack-taken, take-repair-taken, send-update-taken, expire-taken, lose-taken}
+use Rattle.guarantees.proofs.Conditions.{stores8, send-taken, receive-taken, not-flip, Headed, keyOf, roleOf, and-true, pre-check-taken, send-record-taken, post-check-taken, timeout-taken, take-record-taken, take-ack-taken, take-update-taken, take-uack-taken, take-repair-taken, send-update-taken, expire-taken, lose-taken}
 
 written-held : (c : Contents) (w : View) → one (writtenContents c w .held) ≡ 1
 written-held c w = go (c .held) refl

@@ -1,17 +1,15 @@
 -- What each rule writes, read back: the one interaction that it touches, and nothing else. Assumes nothing.
-use mathlib.Core.Path.{_≡_, refl, sym, ap, _∙_, subst}
+use mathlib.Core.Path.{_≡_, refl, sym}
 use mathlib.Core.Logic.{_≢_}
-use mathlib.Core.Bool.{Bool, true, false}
-use mathlib.Core.List.{List}
-use Prim.Native.Nat.{ℕ, zero, suc, _+_, _-_, _*_, _≤_, _<_}
+use Prim.Native.Nat.{ℕ, _-_, _<_}
 use native.Mathlib.Omega.{arith}
 use native.Mathlib.Decide.{ℕ-discrete}
 use borrow.Author.Tests.{eq-eqb, ne-eqb}
 use lib.Dec.{eqb}
-use lib.ListN.{length, getD, set, length-set}
+use lib.ListN.{set, length-set}
 use lib.Seq.{getD-set-same, getD-set-other}
 use Rattle.machine.specs.Words.{pick, one}
-use Rattle.machine.specs.Slots.{number, place, statusNumber, view, repair, entry, message, contents, viewlink, ackCopies, updateCopies, uackCopies, noView, noRepair, noEntry, noContents, noMessage}
+use Rattle.machine.specs.Slots.{number, place, view, repair, entry, contents, viewlink, ackCopies, noView, noRepair, noEntry, noContents}
 use Rattle.machine.specs.Writes.{withView, withRepair, withEntry, withEntries, withAckCopies, withUpdateCopies, withUackCopies, withContentsAt, withViewlink}
 use Rattle.machine.specs.EverySlot.{Sized}
 use Rattle.machine.specs.declared.Machine.{Machine}
@@ -19,7 +17,7 @@ use Rattle.machine.specs.declared.View.{View}
 use Rattle.machine.specs.declared.Repair.{Repair}
 use Rattle.machine.specs.declared.Entry.{Entry}
 use Rattle.machine.specs.declared.Contents.{Contents}
-use Rattle.guarantees.proofs.Local.{Job, Cell, countedCell, recordedCell, linkedCell}
+use Rattle.guarantees.proofs.Local.{Cell, countedCell, linkedCell}
 use Rattle.guarantees.proofs.Whole.{job, jobOf, cell, Touch}
 
 -- what holds of a place as it is written, and of the others as they were

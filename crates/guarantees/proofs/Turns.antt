@@ -1,18 +1,16 @@
 -- What a taken step makes of a view's record that is there: one of seven turns. The kinds are walked here once.
 -- Assumes nothing.
 use mathlib.Core.Path.{_≡_, refl, sym, ap, _∙_, subst}
-use mathlib.Core.Logic.{_≢_}
 use mathlib.Core.Bool.{Bool, true, false, _&&_}
-use mathlib.Core.List.{List}
-use Prim.Native.Nat.{ℕ, zero, suc, _+_, _-_, _*_, _/_, _%_, _≤_, _<_}
+use Prim.Native.Nat.{ℕ, _-_, _*_, _<_}
 use native.Mathlib.Omega.{arith}
 use native.Mathlib.Decide.{ℕ-discrete}
 use borrow.Author.Tests.{eqb-true}
 use lib.Dec.{eqb}
-use lib.ListN.{length, getD, set, length-set}
+use lib.ListN.{getD, set}
 use lib.Seq.{getD-set-same, getD-set-other}
-use Rattle.machine.specs.Words.{pick, table}
-use Rattle.machine.specs.Slots.{number, view, message, home, noView}
+use Rattle.machine.specs.Words.{pick}
+use Rattle.machine.specs.Slots.{number, view, noView}
 use Rattle.machine.specs.Writes.{withRecordCopies, withAckCopies, withUpdateCopies, withUackCopies}
 use Rattle.machine.specs.Unbroken.{Unbroken}
 use Rattle.machine.specs.declared.Machine.{Machine}

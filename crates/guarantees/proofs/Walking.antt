@@ -2,15 +2,15 @@
 -- every key is answered; and the causes that the records hold are those that were sent. Assumes nothing.
 use mathlib.Core.Path.{_≡_, refl, sym, ap, _∙_, subst}
 use mathlib.Core.Logic.{_≢_}
-use mathlib.Core.Bool.{Bool, true, false, _&&_, not}
+use mathlib.Core.Bool.{Bool, true, false, not}
 use mathlib.Core.List.{List, [], _∷_, _++_}
-use Prim.Native.Nat.{ℕ, zero, suc, _+_, _-_, _*_, _≤_, _<_}
+use Prim.Native.Nat.{ℕ, zero, suc, _+_, _-_, _≤_, _<_}
 use native.Mathlib.Omega.{arith}
-use native.Mathlib.Decide.{ℕ-discrete, decLt}
-use borrow.Author.Tests.{eqb-true, eqb-false, eq-eqb, ne-eqb, lt-leb}
-use lib.Dec.{eqb, leb}
-use lib.ListN.{length, getD, take}
-use Rattle.machine.specs.Words.{pick, bit, one, times}
+use native.Mathlib.Decide.{ℕ-discrete}
+use borrow.Author.Tests.{eq-eqb, ne-eqb, lt-leb}
+use lib.Dec.{eqb}
+use lib.ListN.{getD}
+use Rattle.machine.specs.Words.{pick, bit, one}
 use Rattle.machine.specs.Slots.{number, view, contents, causeLinks, viewlink, home, queue, standing}
 use Rattle.machine.specs.Setup.{answered, freshWith}
 use Rattle.machine.specs.Closed.{closedOf}
@@ -26,15 +26,15 @@ use Rattle.rules.specs.declared.Step.{Step}
 use Rattle.rules.specs.declared.Step.the-variants.{Send, Receive, PreCheck, SendRecord, Timeout, TakeRecord, TakeAck, PostCheck, TakeRepair, SendUpdate, TakeUpdate, TakeUack, Expire, Lose, Crash, Restart}
 use Rattle.runs.specs.Run.{ran, freshOf}
 use Rattle.keeps.specs.Laws.{madeBy}
-use Rattle.keeps.proofs.Laws.{made-counts, sends-new-key}
+use Rattle.keeps.proofs.Laws.{made-counts}
 use Rattle.guarantees.specs.Acknowledged.{Legal, after}
-use Rattle.guarantees.specs.Guarantees.{causesOf, sentCauses, SentCause, SentReach, Drains, Walks, TheWalk}
+use Rattle.guarantees.specs.Guarantees.{causesOf, sentCauses, SentCause, SentReach, Drains, TheWalk}
 use Rattle.runs.specs.Drain.{allUp, drainOf}
 use Rattle.drains.specs.Drains.{stepsOf}
 use Rattle.reaches.specs.Reaches.{Reach, Cause as Cause′}
 use Rattle.reaches.proofs.Laws.{answered-reaches}
 use Rattle.walk.specs.declared.Met.{Met}
-use Rattle.walk.specs.Walk.{added, spoiled, foundOf, causesHeld, receiptOf, hopOf, each, visitOf, unmet, walkedFrom, answerOf, walkOf}
+use Rattle.walk.specs.Walk.{added, spoiled, foundOf, causesHeld, receiptOf, hopOf, each, visitOf, unmet, walkedFrom, walkOf}
 use Rattle.guarantees.proofs.Whole.{Everywhere, Here}
 use Rattle.guarantees.proofs.Conditions.{stores8, absurd-eq, send-taken}
 use Rattle.guarantees.proofs.Causes.{Cause, turn-causes}

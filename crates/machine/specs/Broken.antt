@@ -1,8 +1,8 @@
 -- Which machine values are broken. Each definition says what one slot must be so that no clause of document 01 breaks it;
 -- `wholeOf` asks it of every slot. Where a test reads far, it stands in a `let`, so that it waits until it is needed.
-use Prim.Native.Nat.{ℕ, _+_, _*_, _-_, _/_, _%_}
-use mathlib.Core.Bool.{Bool, true, false, _&&_, _||_, not}
-use mathlib.Core.List.{List, [], _∷_}
+use Prim.Native.Nat.{ℕ, _*_, _-_, _/_, _%_}
+use mathlib.Core.Bool.{Bool, _&&_, _||_, not}
+use mathlib.Core.List.{List}
 use lib.ListN.{length, getD}
 use lib.Dec.{ltb, leb, eqb}
 use Rattle.machine.specs.Words.{pick, bit, all, times}

@@ -1,6 +1,6 @@
 -- When an interaction is closed.
 use Prim.Native.Nat.{ℕ}
-use mathlib.Core.Bool.{Bool, _&&_, _||_, not}
+use mathlib.Core.Bool.{Bool, _&&_, not}
 use lib.Dec.{eqb}
 use Rattle.machine.specs.Slots.{number, statusNumber, view, repair, entry}
 use Rattle.machine.specs.declared.Machine.{Machine}

@@ -1,11 +1,11 @@
 -- The setup: which are illegal, the fresh machine of a legal one, and the empty machine.
 use Prim.Native.Nat.{ℕ, _+_, _/_, _%_, _^_}
-use mathlib.Core.Bool.{Bool, true, false, _&&_, _||_}
-use mathlib.Core.List.{List, [], _∷_}
+use mathlib.Core.Bool.{Bool, false, _&&_, _||_}
+use mathlib.Core.List.{List}
 use lib.ListN.{getD, replicate}
 use lib.Dec.{ltb, leb, eqb}
 use Rattle.machine.specs.Words.{pick, bit, all, table}
-use Rattle.machine.specs.Slots.{noView, noContents, noMessage, noRepair, noEntry}
+use Rattle.machine.specs.Slots.{noContents, noMessage, noRepair, noEntry}
 use Rattle.machine.specs.declared.Machine.{Machine}
 use Rattle.machine.specs.declared.Setup.{Setup}
 use Rattle.machine.specs.declared.Answered.{Answered}

@@ -1,10 +1,8 @@
 -- The slots of a machine and what stands in them: by actor, store, interaction, view and place.
-use Prim.Native.Nat.{ℕ, _+_, _*_, _-_}
-use mathlib.Core.Bool.{Bool, true, false, _&&_, not}
-use mathlib.Core.List.{List, [], _∷_}
+use Prim.Native.Nat.{ℕ, _+_, _*_}
+use mathlib.Core.Bool.{Bool, false}
+use mathlib.Core.List.{List, []}
 use lib.ListN.{getD, take}
-use lib.Dec.{ltb, leb, eqb}
-use Rattle.machine.specs.Words.{bit}
 use Rattle.machine.specs.declared.Machine.{Machine}
 use Rattle.machine.specs.declared.View.{View}
 use Rattle.machine.specs.declared.Queue.{Queue}

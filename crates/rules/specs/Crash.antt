@@ -1,6 +1,6 @@
 -- Step 15, crash: store.
 use Prim.Native.Nat.{ℕ}
-use mathlib.Core.Bool.{Bool, true, false, not}
+use mathlib.Core.Bool.{false, not}
 use Rattle.machine.specs.Slots.{isUp}
 use Rattle.machine.specs.Writes.{withUpAt}
 use Rattle.machine.specs.declared.Machine.{Machine}

@@ -1,6 +1,6 @@
 -- Step 13, coordinator timeout: key, role.
 use Prim.Native.Nat.{ℕ}
-use mathlib.Core.Bool.{Bool, true, false, _||_, not}
+use mathlib.Core.Bool.{_||_, not}
 use lib.Dec.{eqb}
 use Rattle.machine.specs.Slots.{number, statusNumber, entry}
 use Rattle.machine.specs.Writes.{withEntry}

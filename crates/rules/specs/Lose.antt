@@ -1,6 +1,6 @@
 -- Step 14, lose: what (0 record, 1 ack, 2 update, 3 uack), store, key, role.
 use Prim.Native.Nat.{ℕ, _-_}
-use mathlib.Core.Bool.{Bool, true, false, _||_}
+use mathlib.Core.Bool.{_||_}
 use lib.Dec.{eqb}
 use Rattle.machine.specs.Words.{pick}
 use Rattle.machine.specs.Slots.{number, recordCopies, ackCopies, updateCopies, uackCopies}

@@ -1,7 +1,7 @@
 -- Step 8, post-check: actor.
 use Prim.Native.Nat.{ℕ, _-_}
-use mathlib.Core.Bool.{Bool, true, false, not}
-use mathlib.Core.List.{List, [], _∷_, _++_}
+use mathlib.Core.Bool.{true, not}
+use mathlib.Core.List.{[], _∷_, _++_}
 use lib.ListN.{drop}
 use Rattle.machine.specs.Words.{pick}
 use Rattle.machine.specs.Slots.{queue, repair}

@@ -1,6 +1,6 @@
 -- Step 3, pre-check: actor.
 use Prim.Native.Nat.{ℕ}
-use mathlib.Core.Bool.{Bool, true, false, _&&_, not}
+use mathlib.Core.Bool.{_&&_, not}
 use lib.ListN.{getD}
 use Rattle.machine.specs.Words.{pick, bit, table}
 use Rattle.machine.specs.Slots.{number, view}

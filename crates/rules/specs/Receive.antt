@@ -1,6 +1,6 @@
 -- Step 2, receive: key.
 use Prim.Native.Nat.{ℕ}
-use mathlib.Core.Bool.{Bool, true, false, not}
+use mathlib.Core.Bool.{false, not}
 use lib.Dec.{eqb}
 use Rattle.machine.specs.Slots.{number, home, queue, message, view, noMessage}
 use Rattle.machine.specs.Writes.{withQueue, withMessage, withView}

@@ -1,6 +1,6 @@
 -- Step 16, restart: store.
 use Prim.Native.Nat.{ℕ}
-use mathlib.Core.Bool.{Bool, true, false}
+use mathlib.Core.Bool.{true}
 use Rattle.machine.specs.Slots.{isUp}
 use Rattle.machine.specs.Writes.{withUpAt}
 use Rattle.machine.specs.declared.Machine.{Machine}

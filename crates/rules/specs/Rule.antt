@@ -1,10 +1,10 @@
 -- How a rule is written: the numbers that refuse it, in their order, then the machine that it gives.
-use Prim.Native.Nat.{ℕ, _+_, _-_}
-use mathlib.Core.Bool.{Bool, true, false, _&&_, _||_, not}
+use Prim.Native.Nat.{ℕ, _+_}
+use mathlib.Core.Bool.{Bool, _&&_, not}
 use lib.ListN.{getD}
 use lib.Dec.{ltb, leb, eqb}
 use Rattle.machine.specs.Words.{pick}
-use Rattle.machine.specs.Slots.{queue, view, noView}
+use Rattle.machine.specs.Slots.{queue, view}
 use Rattle.machine.specs.Setup.{answered}
 use Rattle.machine.specs.declared.Machine.{Machine}
 use Rattle.machine.specs.declared.View.{View}

@@ -1,8 +1,7 @@
 -- Step 1, send: from, to, own store, data, causes.
-use Prim.Native.Nat.{ℕ, _+_, _*_}
+use Prim.Native.Nat.{ℕ, _+_}
 use mathlib.Core.Bool.{Bool, true, false, _&&_, _||_, not}
-use mathlib.Core.List.{List, [], _∷_}
-use lib.ListN.{set, getD}
+use lib.ListN.{set}
 use lib.Dec.{ltb, leb, eqb}
 use Rattle.machine.specs.Words.{pick, bit, table, allBelow}
 use Rattle.machine.specs.Slots.{number, home, list, queue, view}
@@ -11,7 +10,6 @@ use Rattle.machine.specs.Setup.{blankView}
 use Rattle.machine.specs.declared.Machine.{Machine}
 use Rattle.machine.specs.declared.View.{View}
 use Rattle.machine.specs.declared.Queue.{Queue}
-use Rattle.machine.specs.declared.Message.{Message}
 use Rattle.rules.specs.Rule.{refused, taken, outside}
 
 -- each cause is an interaction that from has received

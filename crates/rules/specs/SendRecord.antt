@@ -1,6 +1,6 @@
 -- Step 4, send record: actor.
 use Prim.Native.Nat.{ℕ}
-use mathlib.Core.Bool.{Bool, true, false, not}
+use mathlib.Core.Bool.{not}
 use Rattle.machine.specs.Slots.{recordCopies}
 use Rattle.machine.specs.Writes.{withView, withRecordCopies}
 use Rattle.machine.specs.declared.Machine.{Machine}

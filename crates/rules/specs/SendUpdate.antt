@@ -1,6 +1,6 @@
 -- Step 10, send update: key, role.
 use Prim.Native.Nat.{ℕ}
-use mathlib.Core.Bool.{Bool, true, false, _||_, not}
+use mathlib.Core.Bool.{_||_, not}
 use lib.Dec.{eqb}
 use Rattle.machine.specs.Slots.{number, statusNumber, entry, updateCopies}
 use Rattle.machine.specs.Writes.{withEntry, withUpdateCopies}

@@ -1,6 +1,5 @@
 -- The step: 1 for a broken value, then by kind.
 use Prim.Native.Nat.{ℕ}
-use mathlib.Core.Bool.{Bool}
 use Rattle.machine.specs.Words.{pick}
 use Rattle.machine.specs.Setup.{answered}
 use Rattle.machine.specs.Broken.{brokenOf}

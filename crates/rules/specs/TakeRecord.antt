@@ -1,8 +1,8 @@
 -- Step 6, store takes record: store, key, role.
 use Prim.Native.Nat.{ℕ, _+_, _-_}
-use mathlib.Core.Bool.{Bool, true, false, _||_, not}
+use mathlib.Core.Bool.{true, _||_, not}
 use lib.ListN.{getD}
-use lib.Dec.{eqb, leb}
+use lib.Dec.{eqb}
 use Rattle.machine.specs.Words.{pick}
 use Rattle.machine.specs.Slots.{number, linksPlace, isUp, recordCopies, ackCopies, view, contents, viewlink, noLinks}
 use Rattle.machine.specs.Writes.{withRecordCopies, withAckCopies, withContentsAt, withCauseLinks, withViewlink}

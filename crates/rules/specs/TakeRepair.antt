@@ -1,6 +1,6 @@
 -- Step 9, coordinator takes repair: key, role.
 use Prim.Native.Nat.{ℕ, _-_}
-use mathlib.Core.Bool.{Bool, true, false, _||_, not}
+use mathlib.Core.Bool.{Bool, _||_, not}
 use lib.ListN.{set}
 use lib.Dec.{eqb}
 use Rattle.machine.specs.Words.{pick}

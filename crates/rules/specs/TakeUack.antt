@@ -1,6 +1,6 @@
 -- Step 12, coordinator takes uack: store, key, role.
 use Prim.Native.Nat.{ℕ, _-_}
-use mathlib.Core.Bool.{Bool, true, false, _&&_, _||_, not}
+use mathlib.Core.Bool.{_&&_, _||_}
 use lib.Dec.{eqb}
 use Rattle.machine.specs.Words.{pick}
 use Rattle.machine.specs.Slots.{number, statusNumber, entry, uackCopies}

@@ -1,6 +1,6 @@
 -- Step 11, store takes update: store, key, role.
 use Prim.Native.Nat.{ℕ, _+_, _-_}
-use mathlib.Core.Bool.{Bool, true, false, _||_, not}
+use mathlib.Core.Bool.{_||_, not}
 use lib.Dec.{eqb}
 use Rattle.machine.specs.Slots.{number, isUp, entry, updateCopies, uackCopies}
 use Rattle.machine.specs.Writes.{withUpdateCopies, withUackCopies, withViewlink}

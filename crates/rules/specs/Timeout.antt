@@ -1,6 +1,6 @@
 -- Step 5, timeout: actor, store.
 use Prim.Native.Nat.{ℕ}
-use mathlib.Core.Bool.{Bool, true, false, _||_, not}
+use mathlib.Core.Bool.{true, _||_, not}
 use lib.Dec.{eqb}
 use Rattle.machine.specs.Words.{bit}
 use Rattle.machine.specs.Slots.{list}

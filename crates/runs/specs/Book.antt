@@ -1,6 +1,6 @@
 -- How the bytes of a book are read: by position, where they stand.
 use Prim.Native.Nat.{ℕ, zero, suc, _+_, _*_}
-use mathlib.Core.Bool.{Bool, true, false, _&&_, _||_}
+use mathlib.Core.Bool.{Bool, false, _&&_, _||_}
 use mathlib.Core.List.{List, [], _∷_}
 use lib.Dec.{leb, ltb, eqb}
 use lib.ListN.{length, getD}
@@ -8,7 +8,6 @@ use Rattle.machine.specs.Words.{pick, table}
 use Rattle.machine.specs.declared.Setup.{Setup}
 use Rattle.rules.specs.declared.Step.{Step}
 use Rattle.rules.specs.declared.Step.the-variants.{Send, Receive, PreCheck, SendRecord, Timeout, TakeRecord, TakeAck, PostCheck, TakeRepair, SendUpdate, TakeUpdate, TakeUack, Expire, Lose, Crash, Restart}
-use Rattle.runs.specs.declared.Cursor.{Cursor}
 use Rattle.runs.specs.declared.Read.{Read}
 use Rattle.runs.specs.declared.Read.the-variants.{Got, Bad}
 

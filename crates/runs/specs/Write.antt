@@ -1,5 +1,5 @@
 -- The bytes that a reading is written as: the book's format, from the other side.
-use Prim.Native.Nat.{ℕ, _+_, _/_, _%_}
+use Prim.Native.Nat.{ℕ, _/_, _%_}
 use mathlib.Core.List.{List, [], _∷_, _++_}
 use lib.ListN.{length}
 use Rattle.rules.specs.declared.Step.{Step}

@@ -1,0 +1,4 @@
+pub mod Ruled
+pub mod Right
+pub mod Witnesses
+pub mod Wrong

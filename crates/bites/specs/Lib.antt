@@ -1,0 +1,4 @@
+pub mod Setting
+pub mod Witnesses
+pub mod Variants
+pub mod Wrong

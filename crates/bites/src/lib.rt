@@ -1,0 +1,1 @@
+// That the guarantees of demand 3 are neither empty nor blind: specs/ has the runs and the wrong rules, proofs/ computes them.
