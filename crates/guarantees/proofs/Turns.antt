@@ -70,8 +70,10 @@ module _ (m : Machine) (u : Unbroken m) (v : ℕ) (h : v < m .made * 2) where
       let t = send-taken m from to own causes e in
       let room = t .room in
       let z = u .sized .views in
-      rw (getD-set-other (set (m .views) (number (m .made) 0) (sentView m from to own word causes)) (number (m .made) 1) v (awaitedView to) noView (λ x. let y : ⊥ = omega arith in y),
-      getD-set-other (m .views) (number (m .made) 0) v (sentView m from to own word causes) noView (λ x. let y : ⊥ = omega arith in y)) stays
+      rw (
+        getD-set-other (set (m .views) (number (m .made) 0) (sentView m from to own word causes)) (number (m .made) 1) v (awaitedView to) noView (λ x. let y : ⊥ = omega arith in y),
+        getD-set-other (m .views) (number (m .made) 0) v (sentView m from to own word causes) noView (λ x. let y : ⊥ = omega arith in y),
+      ) stays
   turns (Receive k) e =
       let t = receive-taken m k e in
       one (Receive k) (number k 1) (receivedView m k) (omega (arith, u .made16, t .0)) (λ x. received k x (rw x (t .1)))

@@ -60,8 +60,9 @@ unfolding allBelow
 fails p i zero b e = let z : ⊥ = omega arith in absurd z
 fails p i (suc n) b e =
     elim (decLt i n) [
-      yes q ↦ ap (λ (t : Bool). t && p n) (fails p i n q e)
-    | no q ↦ (let j : i ≡ n = omega arith in ap (λ (t : Bool). allBelow n p && t) (ap p (sym j) ∙ e) ∙ no-and (allBelow n p)) ]
+      | yes q ↦ ap (λ (t : Bool). t && p n) (fails p i n q e)
+      | no q ↦ (let j : i ≡ n = omega arith in ap (λ (t : Bool). allBelow n p && t) (ap p (sym j) ∙ e) ∙ no-and (allBelow n p))
+    ]
 
 pub pass-stop : {p : ℕ → Bool} {n i : ℕ} → Passed p n i → i < n → p i ≡ false → false ≡ allBelow n p
 pass-stop {p} {n} {i} h b e = sym (fails p i n b e)

@@ -1,13 +1,17 @@
 // Step 8, post-check: actor.
+ghost use Prim.Native.Nat.{_<_};
 ghost use mathlib.Core.Path.{_≡_};
 ghost use Rattle.machine.specs.Bounds.{Bounds};
-ghost use Rattle.rules.specs.Rule.{decided};
 ghost use Rattle.rules.specs.PostCheck.{askedRepair, left, postCheckNo, postChecked};
-ghost use Prim.Native.Nat.{_<_};
+ghost use Rattle.rules.specs.Rule.{decided};
 use crate::Recorder;
-use machine::{Answered, Queue, Repair, View};
+use machine::Answered;
+use machine::Queue;
+use machine::Repair;
+use machine::View;
 
 impl Recorder {
+    // Head in phase 4. If changed, a repair goes off. The head leaves the queue, phase 5.
     pub(crate) fn post_check(self, actor: u8) -> Answered
         requires { ⌜ Bounds (self .machine) ⌝ }
         ensures { λ r. ⌜ r ≡ decided (postCheckNo (self .machine) actor) (self .machine) (postChecked (self .machine) actor) ⌝ }
@@ -32,7 +36,10 @@ impl Recorder {
         m.views[head] = w;
         m.queues[a] = queue;
         m.repairs[head] = repair;
-        Answered { machine: m, answer: 0 }
+        Answered {
+            machine: m,
+            answer: 0,
+        }
     }
 }
 
@@ -41,7 +48,11 @@ fn asked_repair(there: Repair, w: View) -> Repair
     ensures { λ r. ⌜ r ≡ askedRepair there w ⌝ }
 {
     if w.changed {
-        return Repair { flying: true, destination: w.viewlink, own: w.store };
+        return Repair {
+            flying: true,
+            destination: w.viewlink,
+            own: w.store,
+        };
     }
     there
 }
@@ -53,6 +64,26 @@ fn left(q: Queue) -> Queue
 {
     let v = q.views;
     let len = q.len - 1;
-    let views = [v[1], v[2], v[3], v[4], v[5], v[6], v[7], v[8], v[9], v[10], v[11], v[12], v[13], v[14], v[15], 0];
-    Queue { len: len, views: views }
+    let views = [
+        v[1],
+        v[2],
+        v[3],
+        v[4],
+        v[5],
+        v[6],
+        v[7],
+        v[8],
+        v[9],
+        v[10],
+        v[11],
+        v[12],
+        v[13],
+        v[14],
+        v[15],
+        0,
+    ];
+    Queue {
+        len: len,
+        views: views,
+    }
 }

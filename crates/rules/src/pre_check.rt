@@ -1,16 +1,18 @@
 // Step 3, pre-check: actor.
+ghost use Prim.Native.Nat.{_<_};
 ghost use mathlib.Core.Path.{_≡_};
 ghost use Rattle.machine.specs.Bounds.{Bounds};
-ghost use Rattle.rules.specs.Rule.{decided};
-ghost use Rattle.rules.specs.PreCheck.{checkedLink, preCheckNo, preChecked};
-ghost use Prim.Native.Nat.{_<_};
+ghost use Rattle.machine.specs.Setup.{emptyMachine};
 ghost use Rattle.machine.specs.Words.{table};
 ghost use Rattle.machine.specs.Writes.{withViews};
-ghost use Rattle.machine.specs.Setup.{emptyMachine};
+ghost use Rattle.rules.specs.PreCheck.{checkedLink, preCheckNo, preChecked};
+ghost use Rattle.rules.specs.Rule.{decided};
 use crate::Recorder;
-use machine::{Answered, View};
+use machine::Answered;
+use machine::View;
 
 impl Recorder {
+    // Head in phase 1. Each cause link becomes the store recorded for that receipt if its changed flag is set. Phase 2.
     pub(crate) fn pre_check(self, actor: u8) -> Answered
         requires { ⌜ Bounds (self .machine) ⌝ }
         ensures { λ r. ⌜ r ≡ decided (preCheckNo (self .machine) actor) (self .machine) (preChecked (self .machine) actor) ⌝ }
@@ -33,11 +35,15 @@ impl Recorder {
         w.links = links;
         w.phase = 2;
         m.views[head] = w;
-        Answered { machine: m, answer: 0 }
+        Answered {
+            machine: m,
+            answer: 0,
+        }
     }
 }
 
 // The link of j: the store of that receipt, if j is a cause and the receipt's changed flag is set.
+// The contract's machine has these views; nothing else of it is looked at.
 fn checked_link(views: [View; 32], w: View, j: usize) -> u8
     requires { ⌜ j < 16 ⌝ }
     ensures { λ r. ⌜ r ≡ checkedLink (withViews emptyMachine views) w j ⌝ }

@@ -1,12 +1,13 @@
 // Step 16, restart: store.
 ghost use mathlib.Core.Path.{_≡_};
 ghost use Rattle.machine.specs.Bounds.{Bounds};
-ghost use Rattle.rules.specs.Rule.{decided};
 ghost use Rattle.rules.specs.Restart.{restartNo, restarted};
+ghost use Rattle.rules.specs.Rule.{decided};
 use crate::Recorder;
 use machine::Answered;
 
 impl Recorder {
+    // Down becomes up.
     pub(crate) fn restart(self, store: u8) -> Answered
         requires { ⌜ Bounds (self .machine) ⌝ }
         ensures { λ r. ⌜ r ≡ decided (restartNo (self .machine) store) (self .machine) (restarted (self .machine) store) ⌝ }
@@ -20,6 +21,9 @@ impl Recorder {
             return self.refused(6);
         }
         m.up[at] = true;
-        Answered { machine: m, answer: 0 }
+        Answered {
+            machine: m,
+            answer: 0,
+        }
     }
 }

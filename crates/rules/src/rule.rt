@@ -11,7 +11,10 @@ impl Recorder {
         ensures { λ r. ⌜ r ≡ answered number (self .machine) ⌝ }
     {
         let m = self.machine;
-        Answered { machine: m, answer: number }
+        Answered {
+            machine: m,
+            answer: number,
+        }
     }
 }
 

@@ -1,16 +1,20 @@
 // Step 1, send: from, to, own store, data, causes.
+ghost use Prim.Native.Nat.{_<_};
 ghost use mathlib.Core.Path.{_≡_};
 ghost use Rattle.machine.specs.Bounds.{Bounds};
-ghost use Rattle.rules.specs.Rule.{decided};
-ghost use Rattle.rules.specs.Send.{causeKnown, causesKnown, homeLink, joined, sendNo, sent};
 ghost use Rattle.machine.specs.Setup.{answered, emptyMachine};
-ghost use Prim.Native.Nat.{_<_};
 ghost use Rattle.machine.specs.Words.{table};
 ghost use Rattle.machine.specs.Writes.{withMade, withViews};
+ghost use Rattle.rules.specs.Rule.{decided};
+ghost use Rattle.rules.specs.Send.{awaitedView, causeKnown, causesKnown, homeLink, joined, sendNo, sent};
 use crate::Recorder;
-use machine::{Answered, Message, Queue, View};
+use machine::Answered;
+use machine::Message;
+use machine::Queue;
+use machine::View;
 
 impl Recorder {
+    // Own is in from's list; each cause is an interaction that from has received.
     pub(crate) fn send(self, from: u8, to: u8, own: u8, word: u32, causes: u16) -> Answered
         requires { ⌜ Bounds (self .machine) ⌝ }
         ensures { λ r. ⌜ r ≡ decided (sendNo (self .machine) from to own causes) (self .machine) (sent (self .machine) from to own word causes) ⌝ }
@@ -52,20 +56,53 @@ impl Recorder {
         let links = home_links(causes, m.homes[a]);
         let far = m.homes[to as usize];
         let queue = joined(m.queues[a], m.made * 2);
-        let blank = [0u8; 16];
-        let sender = View { actor: from, phase: 1, store: own, viewlink: far, changed: false, causes: causes, word: word, links: links };
-        let receiver = View { actor: to, phase: 0, store: 0, viewlink: 0, changed: false, causes: 0, word: 0, links: blank };
-        let message = Message { flying: true, own: own, word: word };
+        let sender = View {
+            actor: from,
+            phase: 1,
+            store: own,
+            viewlink: far,
+            changed: false,
+            causes: causes,
+            word: word,
+            links: links,
+        };
+        let receiver = awaited_view(to);
+        let message = Message {
+            flying: true,
+            own: own,
+            word: word,
+        };
         m.views[k * 2] = sender;
         m.views[k * 2 + 1] = receiver;
         m.queues[a] = queue;
         m.messages[k] = message;
         m.made += 1;
-        Answered { machine: m, answer: 0 }
+        Answered {
+            machine: m,
+            answer: 0,
+        }
+    }
+}
+
+// Of the receiver's record just the actor is set.
+pub(crate) fn awaited_view(to: u8) -> View
+    ensures { λ r. ⌜ r ≡ awaitedView to ⌝ }
+{
+    let blank = [0u8; 16];
+    View {
+        actor: to,
+        phase: 0,
+        store: 0,
+        viewlink: 0,
+        changed: false,
+        causes: 0,
+        word: 0,
+        links: blank,
     }
 }
 
 // Whether j, if it is a cause, is an interaction that the actor has received.
+// The contract's machine has these views and this number made; nothing else of it is looked at.
 fn cause_known(views: [View; 32], made: u8, actor: u8, causes: u16, j: usize) -> bool
     requires { ⌜ j < 16 ⌝ }
     ensures { λ r. ⌜ r ≡ causeKnown (withMade (withViews emptyMachine views) made) actor causes j ⌝ }

@@ -8,6 +8,7 @@ use crate::rule::one_more;
 use machine::Answered;
 
 impl Recorder {
+    // Head in phase 2. One record copy to its store. Phase 3.
     pub(crate) fn send_record(self, actor: u8) -> Answered
         requires { ⌜ Bounds (self .machine) ⌝ }
         ensures { λ r. ⌜ r ≡ decided (sendRecordNo (self .machine) actor) (self .machine) (recordSent (self .machine) actor) ⌝ }
@@ -30,6 +31,9 @@ impl Recorder {
         w.phase = 3;
         m.views[head] = w;
         m.records[at] = copies;
-        Answered { machine: m, answer: 0 }
+        Answered {
+            machine: m,
+            answer: 0,
+        }
     }
 }

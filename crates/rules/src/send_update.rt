@@ -5,9 +5,13 @@ ghost use Rattle.rules.specs.Rule.{decided};
 ghost use Rattle.rules.specs.SendUpdate.{sendUpdateNo, updateSent};
 use crate::Recorder;
 use crate::rule::one_more;
-use machine::{Answered, Entry, Status, status_number};
+use machine::Answered;
+use machine::Entry;
+use machine::Status;
+use machine::status_number;
 
 impl Recorder {
+    // To-send. One update copy to the destination; waiting.
     pub(crate) fn send_update(self, key: u8, role: u8) -> Answered
         requires { ⌜ Bounds (self .machine) ⌝ }
         ensures { λ r. ⌜ r ≡ decided (sendUpdateNo (self .machine) key role) (self .machine) (updateSent (self .machine) key role) ⌝ }
@@ -27,9 +31,16 @@ impl Recorder {
         }
         let at = e.destination as usize * 32 + v;
         let copies = one_more(m.updates[at]);
-        let entry = Entry { status: Status::Waiting, destination: e.destination, own: e.own };
+        let entry = Entry {
+            status: Status::Waiting,
+            destination: e.destination,
+            own: e.own,
+        };
         m.entries[v] = entry;
         m.updates[at] = copies;
-        Answered { machine: m, answer: 0 }
+        Answered {
+            machine: m,
+            answer: 0,
+        }
     }
 }

@@ -1,17 +1,20 @@
 // Step 7, actor takes ack: store, key, role.
-ghost use mathlib.Core.Path.{_≡_};
-ghost use Rattle.machine.specs.Bounds.{Bounds};
-ghost use Rattle.rules.specs.Rule.{decided};
-ghost use Rattle.rules.specs.TakeAck.{takeAckNo, ackTaken};
 ghost use mathlib.Core.Bool.{_&&_, not};
-ghost use lib.ListN.{getD};
+ghost use mathlib.Core.Path.{_≡_};
 ghost use lib.Dec.{eqb};
+ghost use lib.ListN.{getD};
+ghost use Rattle.machine.specs.Bounds.{Bounds};
 ghost use Rattle.machine.specs.Words.{pick};
+ghost use Rattle.rules.specs.Rule.{decided};
 ghost use Rattle.rules.specs.Rule.{phased};
+ghost use Rattle.rules.specs.TakeAck.{takeAckNo, ackTaken};
 use crate::Recorder;
-use machine::{Answered, Queue, View};
+use machine::Answered;
+use machine::Queue;
+use machine::View;
 
 impl Recorder {
+    // A copy in flight. The copy goes; it counts for its queue's head alone, from the current store.
     pub(crate) fn take_ack(self, store: u8, key: u8, role: u8) -> Answered
         requires { ⌜ Bounds (self .machine) ⌝ }
         ensures { λ r. ⌜ r ≡ decided (takeAckNo (self .machine) store key role) (self .machine) (ackTaken (self .machine) store key role) ⌝ }
@@ -36,7 +39,10 @@ impl Recorder {
         let view = acked(m.queues[w.actor as usize], w, store, key * 2 + role);
         m.views[v] = view;
         m.acks[at] = copies - 1;
-        Answered { machine: m, answer: 0 }
+        Answered {
+            machine: m,
+            answer: 0,
+        }
     }
 }
 

@@ -1,14 +1,18 @@
 // Step 6, store takes record: store, key, role.
+ghost use Prim.Native.Nat.{_<_};
 ghost use mathlib.Core.Path.{_≡_};
 ghost use Rattle.machine.specs.Bounds.{Bounds};
 ghost use Rattle.rules.specs.Rule.{decided};
 ghost use Rattle.rules.specs.TakeRecord.{takeRecordNo, recordTaken, writtenContents, writtenLinks, writtenViewlink};
-ghost use Prim.Native.Nat.{_<_};
 use crate::Recorder;
 use crate::rule::one_more;
-use machine::{Answered, Contents, Links, View};
+use machine::Answered;
+use machine::Contents;
+use machine::Links;
+use machine::View;
 
 impl Recorder {
+    // Store up, a copy in flight. The copy goes; contents and viewlink are written only where none were. One ack copy.
     pub(crate) fn take_record(self, store: u8, key: u8, role: u8) -> Answered
         requires { ⌜ Bounds (self .machine) ⌝ }
         ensures { λ r. ⌜ r ≡ decided (takeRecordNo (self .machine) store key role) (self .machine) (recordTaken (self .machine) store key role) ⌝ }
@@ -28,8 +32,7 @@ impl Recorder {
         }
         let v = key as usize * 2 + role as usize;
         let at = store as usize * 32 + v;
-        let copies = m.records[at];
-        if copies == 0 {
+        if m.records[at] == 0 {
             return self.refused(7);
         }
         let sender = store as usize * 16 + key as usize;
@@ -39,12 +42,15 @@ impl Recorder {
         let links = written_links(role, held, w, m.links[sender]);
         let viewlink = written_viewlink(m.viewlinks[at], w);
         let acks = one_more(m.acks[at]);
-        m.records[at] = copies - 1;
+        m.records[at] -= 1;
         m.acks[at] = acks;
         m.contents[at] = contents;
         m.links[sender] = links;
         m.viewlinks[at] = viewlink;
-        Answered { machine: m, answer: 0 }
+        Answered {
+            machine: m,
+            answer: 0,
+        }
     }
 }
 
@@ -55,7 +61,12 @@ fn written_contents(held: Contents, w: View) -> Contents
     if held.held {
         return held;
     }
-    Contents { held: true, asserter: w.actor, causes: w.causes, word: w.word }
+    Contents {
+        held: true,
+        asserter: w.actor,
+        causes: w.causes,
+        word: w.word,
+    }
 }
 
 // So are the cause links, which only a sender has.

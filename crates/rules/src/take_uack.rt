@@ -4,9 +4,13 @@ ghost use Rattle.machine.specs.Bounds.{Bounds};
 ghost use Rattle.rules.specs.Rule.{decided};
 ghost use Rattle.rules.specs.TakeUack.{finishedEntry, takeUackNo, uackTaken};
 use crate::Recorder;
-use machine::{Answered, Entry, Status, status_number};
+use machine::Answered;
+use machine::Entry;
+use machine::Status;
+use machine::status_number;
 
 impl Recorder {
+    // A copy in flight; it goes. If waiting and the store is the destination: done.
     pub(crate) fn take_uack(self, store: u8, key: u8, role: u8) -> Answered
         requires { ⌜ Bounds (self .machine) ⌝ }
         ensures { λ r. ⌜ r ≡ decided (takeUackNo (self .machine) store key role) (self .machine) (uackTaken (self .machine) store key role) ⌝ }
@@ -30,7 +34,10 @@ impl Recorder {
         let entry = finished_entry(store, m.entries[v]);
         m.entries[v] = entry;
         m.uacks[at] = copies - 1;
-        Answered { machine: m, answer: 0 }
+        Answered {
+            machine: m,
+            answer: 0,
+        }
     }
 }
 
@@ -45,5 +52,9 @@ fn finished_entry(store: u8, e: Entry) -> Entry
     if e.destination != store {
         return e;
     }
-    Entry { status: Status::Done, destination: e.destination, own: e.own }
+    Entry {
+        status: Status::Done,
+        destination: e.destination,
+        own: e.own,
+    }
 }

@@ -8,6 +8,7 @@ use crate::rule::one_more;
 use machine::Answered;
 
 impl Recorder {
+    // Store up, a copy in flight. The copy goes; the opposite view's link there becomes the entry's own store. One uack copy.
     pub(crate) fn take_update(self, store: u8, key: u8, role: u8) -> Answered
         requires { ⌜ Bounds (self .machine) ⌝ }
         ensures { λ r. ⌜ r ≡ decided (takeUpdateNo (self .machine) store key role) (self .machine) (updateTaken (self .machine) store key role) ⌝ }
@@ -37,6 +38,9 @@ impl Recorder {
         m.updates[at] = copies - 1;
         m.viewlinks[opposite] = e.own + 1;
         m.uacks[at] = uacks;
-        Answered { machine: m, answer: 0 }
+        Answered {
+            machine: m,
+            answer: 0,
+        }
     }
 }

@@ -7,6 +7,7 @@ use crate::Recorder;
 use machine::Answered;
 
 impl Recorder {
+    // Head in phase 3; the store is in the list and not the current one. It becomes current, changed is set, phase 2.
     pub(crate) fn timeout(self, actor: u8, store: u8) -> Answered
         requires { ⌜ Bounds (self .machine) ⌝ }
         ensures { λ r. ⌜ r ≡ decided (timeoutNo (self .machine) actor store) (self .machine) (timedOut (self .machine) actor store) ⌝ }
@@ -38,6 +39,9 @@ impl Recorder {
         w.changed = true;
         w.phase = 2;
         m.views[head] = w;
-        Answered { machine: m, answer: 0 }
+        Answered {
+            machine: m,
+            answer: 0,
+        }
     }
 }

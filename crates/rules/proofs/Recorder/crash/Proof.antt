@@ -29,7 +29,12 @@ element-write-m c = search needs
 
 returns-3 : tie.Need-returns-3
 unfolding crashNo crashed
-returns-3 c = let x = c .before .before .before .before .args in let m = x .self .machine in takes (crashNo m (x .store)) m (crashed m (x .store)) (simp (lt-leb _ _ (c .before .before .if1 .left), c .if2 .left)) refl
+returns-3 c =
+    let x = c .before .before .before .before .args in
+    let m = x .self .machine in
+    takes (crashNo m (x .store)) m (crashed m (x .store))
+    (simp (lt-leb _ _ (c .before .before .if1 .left), c .if2 .left))
+    refl
 
 pub crash-spec : {M : Type 1} → statement M
 crash-spec =

@@ -41,7 +41,12 @@ refused-requires-3 c κs = search needs
 
 returns-3 : tie.Need-returns-3
 unfolding expireNo
-returns-3 c = c .refused3 .ensures ∙ simp (lt-leb _ _ (c .before .before .before .before .before .if1 .left), lt-leb _ _ (c .before .before .before .before .if2 .left), told-not (c .before .before .status-number .ensures) (c .before .if3 .taken))
+returns-3 c =
+    c .refused3 .ensures ∙ simp (
+      lt-leb _ _ (c .before .before .before .before .before .if1 .left),
+      lt-leb _ _ (c .before .before .before .before .if2 .left),
+      told-not (c .before .before .status-number .ensures) (c .before .if3 .taken),
+    )
 
 mul-entry : tie.Need-mul-entry
 mul-entry c = search needs
@@ -51,7 +56,16 @@ element-set-from-entry c = search needs
 
 returns-4 : tie.Need-returns-4
 unfolding expireNo expired
-returns-4 c = let x = c .before .before .before .before .before .before .args in let m = x .self .machine in takes (expireNo m (x .key) (x .role)) m (expired m (x .key) (x .role)) (simp (lt-leb _ _ (c .before .before .before .before .if1 .left), lt-leb _ _ (c .before .before .before .if2 .left), told (c .before .status-number .ensures) (c .if3 .left))) refl
+returns-4 c =
+    let x = c .before .before .before .before .before .before .args in
+    let m = x .self .machine in
+    takes (expireNo m (x .key) (x .role)) m (expired m (x .key) (x .role))
+    (simp (
+      lt-leb _ _ (c .before .before .before .before .if1 .left),
+      lt-leb _ _ (c .before .before .before .if2 .left),
+      told (c .before .status-number .ensures) (c .if3 .left),
+    ))
+    refl
 
 pub expire-spec : {M : Type 1} → statement M
 expire-spec =

@@ -1,9 +1,11 @@
--- `lose` meets its contract: each guard gives the value of its test, and what is named decides both the count that is read
--- and the one that is written. Assumes nothing.
-use mathlib.Core.Path.{_∙_}
+-- `lose` meets its contract: each guard gives the value of its test, and the count that is written is the one that was
+-- read, less one. Assumes nothing.
+use Prim.Native.Nat.{_*_, _+_, _-_, ℕ}
+use mathlib.Core.Path.{_∙_, ap}
 use borrow.Author.Needs.{needs}
-use borrow.Author.Tests.{eq-eqb, le-leb, lt-leb, ne-eqb}
-use Rattle.rules.specs.Lose.{loseNo, lost}
+use borrow.Author.Tests.{le-leb, lt-leb}
+use Rattle.machine.specs.Setup.{answered}
+use Rattle.rules.specs.Lose.{loseNo, lost, withCopies}
 use Rattle.rules.proofs.Kit.{takes, told, told-not}
 use Rattle.rules.proofs.Recorder.lose.Statement.{statement}
 use Rattle.rules.proofs.Recorder.lose.Tie as tie
@@ -27,14 +29,25 @@ refused-requires-3 c κs = search needs
 
 returns-3 : tie.Need-returns-3
 unfolding loseNo
-returns-3 c = c .refused3 .ensures ∙ simp (lt-leb _ _ (c .before .before .before .if1 .left), lt-leb _ _ (c .before .before .if2 .left), le-leb _ _ (c .before .if3 .taken))
+returns-3 c =
+    c .refused3 .ensures ∙ simp (
+      lt-leb _ _ (c .before .before .before .if1 .left),
+      lt-leb _ _ (c .before .before .if2 .left),
+      le-leb _ _ (c .before .if3 .taken),
+    )
 
 refused-requires-4 : tie.Need-refused-requires-4
 refused-requires-4 c κs = search needs
 
 returns-4 : tie.Need-returns-4
 unfolding loseNo
-returns-4 c = c .refused4 .ensures ∙ simp (lt-leb _ _ (c .before .before .before .before .if1 .left), lt-leb _ _ (c .before .before .before .if2 .left), lt-leb _ _ (c .before .before .if3 .left), le-leb _ _ (c .before .if4 .taken))
+returns-4 c =
+    c .refused4 .ensures ∙ simp (
+      lt-leb _ _ (c .before .before .before .before .if1 .left),
+      lt-leb _ _ (c .before .before .before .if2 .left),
+      lt-leb _ _ (c .before .before .if3 .left),
+      le-leb _ _ (c .before .if4 .taken),
+    )
 
 mul-at : tie.Need-mul-at
 mul-at c = search needs
@@ -68,47 +81,41 @@ refused-requires-5 c κs = search needs
 
 returns-5 : tie.Need-returns-5
 unfolding loseNo
-returns-5 c = c .refused5 .ensures ∙ simp (lt-leb _ _ (c .before .before .before .before .before .before .before .before .before .before .if1 .left), lt-leb _ _ (c .before .before .before .before .before .before .before .before .before .if2 .left), lt-leb _ _ (c .before .before .before .before .before .before .before .before .if3 .left), lt-leb _ _ (c .before .before .before .before .before .before .before .if4 .left), told (c .before .before .copies .ensures) (c .before .if5 .taken))
+returns-5 c =
+    c .refused5 .ensures ∙ simp (
+      lt-leb _ _ (c .before .before .before .before .before .before .before .before .before .before .if1 .left),
+      lt-leb _ _ (c .before .before .before .before .before .before .before .before .before .if2 .left),
+      lt-leb _ _ (c .before .before .before .before .before .before .before .before .if3 .left),
+      lt-leb _ _ (c .before .before .before .before .before .before .before .if4 .left),
+      told (c .before .before .copies .ensures) (c .before .if5 .taken),
+    )
 
-sub-m : tie.Need-sub-m
-sub-m c = search needs
+mul-v : tie.Need-mul-v
+mul-v c = search needs
 
-element-write-m : tie.Need-element-write-m
-element-write-m c = search needs
+add-v : tie.Need-add-v
+add-v c = search needs
+
+sub-lost : tie.Need-sub-lost
+sub-lost c = search needs
+
+lost-requires : tie.Need-lost-requires
+lost-requires c κs = search needs
 
 returns-6 : tie.Need-returns-6
 unfolding loseNo lost
-returns-6 c = let x = c .before .before .before .before .before .before .before .before .before .before .before .before .args in let m = x .self .machine in takes (loseNo m (x .what) (x .store) (x .key) (x .role)) m (lost m (x .what) (x .store) (x .key) (x .role)) (simp (lt-leb _ _ (c .before .before .before .before .before .before .before .before .before .before .if1 .left), lt-leb _ _ (c .before .before .before .before .before .before .before .before .before .if2 .left), lt-leb _ _ (c .before .before .before .before .before .before .before .before .if3 .left), lt-leb _ _ (c .before .before .before .before .before .before .before .if4 .left), told-not (c .before .before .copies .ensures) (c .before .if5 .left))) (rw (c .before .before .copies .ensures, eq-eqb _ _ (c .if6 .taken)))
-
-sub-m-2 : tie.Need-sub-m-2
-sub-m-2 c = search needs
-
-element-write-m-2 : tie.Need-element-write-m-2
-element-write-m-2 c = search needs
-
-returns-7 : tie.Need-returns-7
-unfolding loseNo lost
-returns-7 c = let x = c .before .before .before .before .before .before .before .before .before .before .before .before .before .args in let m = x .self .machine in takes (loseNo m (x .what) (x .store) (x .key) (x .role)) m (lost m (x .what) (x .store) (x .key) (x .role)) (simp (lt-leb _ _ (c .before .before .before .before .before .before .before .before .before .before .before .if1 .left), lt-leb _ _ (c .before .before .before .before .before .before .before .before .before .before .if2 .left), lt-leb _ _ (c .before .before .before .before .before .before .before .before .before .if3 .left), lt-leb _ _ (c .before .before .before .before .before .before .before .before .if4 .left), told-not (c .before .before .before .copies .ensures) (c .before .before .if5 .left))) (rw (c .before .before .before .copies .ensures, ne-eqb _ _ (c .before .if6 .left), eq-eqb _ _ (c .if7 .taken)))
-
-sub-m-3 : tie.Need-sub-m-3
-sub-m-3 c = search needs
-
-element-write-m-3 : tie.Need-element-write-m-3
-element-write-m-3 c = search needs
-
-returns-8 : tie.Need-returns-8
-unfolding loseNo lost
-returns-8 c = let x = c .before .before .before .before .before .before .before .before .before .before .before .before .before .before .args in let m = x .self .machine in takes (loseNo m (x .what) (x .store) (x .key) (x .role)) m (lost m (x .what) (x .store) (x .key) (x .role)) (simp (lt-leb _ _ (c .before .before .before .before .before .before .before .before .before .before .before .before .if1 .left), lt-leb _ _ (c .before .before .before .before .before .before .before .before .before .before .before .if2 .left), lt-leb _ _ (c .before .before .before .before .before .before .before .before .before .before .if3 .left), lt-leb _ _ (c .before .before .before .before .before .before .before .before .before .if4 .left), told-not (c .before .before .before .before .copies .ensures) (c .before .before .before .if5 .left))) (rw (c .before .before .before .before .copies .ensures, ne-eqb _ _ (c .before .before .if6 .left), ne-eqb _ _ (c .before .if7 .left), eq-eqb _ _ (c .if8 .taken)))
-
-sub-m-4 : tie.Need-sub-m-4
-sub-m-4 c = search needs
-
-element-write-m-4 : tie.Need-element-write-m-4
-element-write-m-4 c = search needs
-
-returns-9 : tie.Need-returns-9
-unfolding loseNo lost
-returns-9 c = let x = c .before .before .before .before .before .before .before .before .before .before .before .before .before .before .args in let m = x .self .machine in takes (loseNo m (x .what) (x .store) (x .key) (x .role)) m (lost m (x .what) (x .store) (x .key) (x .role)) (simp (lt-leb _ _ (c .before .before .before .before .before .before .before .before .before .before .before .before .if1 .left), lt-leb _ _ (c .before .before .before .before .before .before .before .before .before .before .before .if2 .left), lt-leb _ _ (c .before .before .before .before .before .before .before .before .before .before .if3 .left), lt-leb _ _ (c .before .before .before .before .before .before .before .before .before .if4 .left), told-not (c .before .before .before .before .copies .ensures) (c .before .before .before .if5 .left))) (rw (c .before .before .before .before .copies .ensures, ne-eqb _ _ (c .before .before .if6 .left), ne-eqb _ _ (c .before .if7 .left), ne-eqb _ _ (c .if8 .left)))
+returns-6 c =
+    let x = c .before .before .before .before .before .before .before .before .before .before .before .before .args in
+    let m = x .self .machine in
+    takes (loseNo m (x .what) (x .store) (x .key) (x .role)) m (lost m (x .what) (x .store) (x .key) (x .role))
+    (simp (
+      lt-leb _ _ (c .before .before .before .before .before .before .before .before .before .before .if1 .left),
+      lt-leb _ _ (c .before .before .before .before .before .before .before .before .before .if2 .left),
+      lt-leb _ _ (c .before .before .before .before .before .before .before .before .if3 .left),
+      lt-leb _ _ (c .before .before .before .before .before .before .before .if4 .left),
+      told-not (c .before .before .copies .ensures) (c .before .if5 .left),
+    ))
+    (c .lost .ensures ∙ ap (λ (n : ℕ). answered 0 (withCopies m (x .what) (x .store) (x .key * 2 + x .role) (n - 1))) (c .before .before .copies .ensures))
 
 pub lose-spec : {M : Type 1} → statement M
 lose-spec =
@@ -133,15 +140,8 @@ lose-spec =
     copies-requires
     refused-requires-5
     returns-5
-    sub-m
-    element-write-m
-    returns-6
-    sub-m-2
-    element-write-m-2
-    returns-7
-    sub-m-3
-    element-write-m-3
-    returns-8
-    sub-m-4
-    element-write-m-4
-    returns-9)
+    mul-v
+    add-v
+    sub-lost
+    lost-requires
+    returns-6)

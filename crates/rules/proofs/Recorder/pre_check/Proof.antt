@@ -33,33 +33,57 @@ element-copy-out-head : tie.Need-element-copy-out-head
 element-copy-out-head c = search needs
 
 cast-head : tie.Need-cast-head
-cast-head c = let start = c .before .before .before .before .before in omega (arith, start .pre .headIn32 (start .args .actor) (omega arith))
+cast-head c =
+    let start = c .before .before .before .before .before in
+    omega (arith, start .pre .headIn32 (start .args .actor) (omega arith))
 
 mul-w : tie.Need-mul-w
-mul-w c = let start = c .before .before .before .before .before in omega (arith, start .pre .headIn32 (start .args .actor) (omega arith))
+mul-w c =
+    let start = c .before .before .before .before .before in
+    omega (arith, start .pre .headIn32 (start .args .actor) (omega arith))
 
 element-copy-out-w : tie.Need-element-copy-out-w
-element-copy-out-w c = let start = c .before .before .before .before .before in omega (arith, start .pre .headIn32 (start .args .actor) (omega arith))
+element-copy-out-w c =
+    let start = c .before .before .before .before .before in
+    omega (arith, start .pre .headIn32 (start .args .actor) (omega arith))
 
 refused-requires-3 : tie.Need-refused-requires-3
 refused-requires-3 c κs = search needs
 
 returns-3 : tie.Need-returns-3
 unfolding preCheckNo
-returns-3 c = c .refused3 .ensures ∙ simp (lt-leb _ _ (c .before .before .before .before .before .before .before .if1 .left), ne-eqb _ _ (c .before .before .before .before .before .if2 .left), ne-eqb _ _ (c .before .if3 .taken))
+returns-3 c =
+    c .refused3 .ensures ∙ simp (
+      lt-leb _ _ (c .before .before .before .before .before .before .before .if1 .left),
+      ne-eqb _ _ (c .before .before .before .before .before .if2 .left),
+      ne-eqb _ _ (c .before .if3 .taken),
+    )
 
 checked-links-requires : tie.Need-checked-links-requires
 checked-links-requires c κs = search needs
 
 mul-w-2 : tie.Need-mul-w-2
-mul-w-2 c = let start = c .before .before .before .before .before .before .before .before .before .before in omega (arith, start .pre .headIn32 (start .args .actor) (omega arith))
+mul-w-2 c =
+    let start = c .before .before .before .before .before .before .before .before .before .before in
+    omega (arith, start .pre .headIn32 (start .args .actor) (omega arith))
 
 element-set-from-w : tie.Need-element-set-from-w
-element-set-from-w c = let start = c .before .before .before .before .before .before .before .before .before .before in omega (arith, start .pre .headIn32 (start .args .actor) (omega arith))
+element-set-from-w c =
+    let start = c .before .before .before .before .before .before .before .before .before .before in
+    omega (arith, start .pre .headIn32 (start .args .actor) (omega arith))
 
 returns-4 : tie.Need-returns-4
 unfolding preCheckNo preChecked
-returns-4 c = let x = c .before .before .before .before .before .before .before .before .before .before .args in let m = x .self .machine in takes (preCheckNo m (x .actor)) m (preChecked m (x .actor)) (simp (lt-leb _ _ (c .before .before .before .before .before .before .before .before .if1 .left), ne-eqb _ _ (c .before .before .before .before .before .before .if2 .left), eq-eqb _ _ (c .before .before .if3 .left))) (simp (c .checked-links .ensures))
+returns-4 c =
+    let x = c .before .before .before .before .before .before .before .before .before .before .args in
+    let m = x .self .machine in
+    takes (preCheckNo m (x .actor)) m (preChecked m (x .actor))
+    (simp (
+      lt-leb _ _ (c .before .before .before .before .before .before .before .before .if1 .left),
+      ne-eqb _ _ (c .before .before .before .before .before .before .if2 .left),
+      eq-eqb _ _ (c .before .before .if3 .left),
+    ))
+    (simp (c .checked-links .ensures))
 
 pub pre-check-spec : {M : Type 1} → statement M
 pre-check-spec =

@@ -34,13 +34,16 @@ refused-requires-2 c κs = search needs
 
 returns-2 : tie.Need-returns-2
 unfolding receiveNo
-returns-2 c = c .refused2 .ensures ∙ simp (lt-leb _ _ (c .before .before .before .before .if1 .left), ne-eqb _ _ (c .before .if2 .taken))
+returns-2 c =
+    c .refused2 .ensures ∙ simp (lt-leb _ _ (c .before .before .before .before .if1 .left), ne-eqb _ _ (c .before .if2 .taken))
 
 cast-a : tie.Need-cast-a
 cast-a c = search needs
 
 element-copy-out-home : tie.Need-element-copy-out-home
-element-copy-out-home c = let start = c .before .before .before .before .before .before in omega (arith, start .pre .actorIn8 (start .args .key * 2 + 1) (omega arith))
+element-copy-out-home c =
+    let start = c .before .before .before .before .before .before in
+    omega (arith, start .pre .actorIn8 (start .args .key * 2 + 1) (omega arith))
 
 mul-sent : tie.Need-mul-sent
 mul-sent c = search needs
@@ -52,7 +55,9 @@ mul-joined : tie.Need-mul-joined
 mul-joined c = search needs
 
 element-copy-out-joined : tie.Need-element-copy-out-joined
-element-copy-out-joined c = let start = c .before .before .before .before .before .before .before .before in omega (arith, start .pre .actorIn8 (start .args .key * 2 + 1) (omega arith))
+element-copy-out-joined c =
+    let start = c .before .before .before .before .before .before .before .before in
+    omega (arith, start .pre .actorIn8 (start .args .key * 2 + 1) (omega arith))
 
 mul-joined-2 : tie.Need-mul-joined-2
 mul-joined-2 c = search needs
@@ -61,7 +66,11 @@ add-joined : tie.Need-add-joined
 add-joined c = search needs
 
 joined-requires : tie.Need-joined-requires
-joined-requires c κs = c .before .before .before .before .before .before .before .before .before .pre .receiveRoom (c .before .before .before .before .before .before .before .before .before .args .key) (omega arith) (c .before .before .before .before .if2 .left)
+joined-requires c κs =
+    c .before .before .before .before .before .before .before .before .before .pre .receiveRoom (c .before .before .before .before .before .before .before .before .before .args .key) (omega arith) (c .before .before .before .before .if2 .left)
+
+awaited-view-requires : tie.Need-awaited-view-requires
+awaited-view-requires c κs = search needs
 
 mul-view : tie.Need-mul-view
 mul-view c = search needs
@@ -73,7 +82,9 @@ mul-queue : tie.Need-mul-queue
 mul-queue c = search needs
 
 element-set-from-queue : tie.Need-element-set-from-queue
-element-set-from-queue c = let start = c .before .before .before .before .before .before .before .before .before .before in omega (arith, start .pre .actorIn8 (start .args .key * 2 + 1) (omega arith))
+element-set-from-queue c =
+    let start = c .before .before .before .before .before .before .before .before .before .before .before in
+    omega (arith, start .pre .actorIn8 (start .args .key * 2 + 1) (omega arith))
 
 mul-nothing : tie.Need-mul-nothing
 mul-nothing c = search needs
@@ -83,7 +94,15 @@ element-set-from-nothing c = search needs
 
 returns-3 : tie.Need-returns-3
 unfolding receiveNo receivedOf
-returns-3 c = let x = c .before .before .before .before .before .before .before .before .before .before .args in let m = x .self .machine in takes (receiveNo m (x .key)) m (receivedOf m (x .key)) (simp (lt-leb _ _ (c .before .before .before .before .before .before .before .before .if1 .left), eq-eqb _ _ (c .before .before .before .before .before .if2 .left))) (simp (c .joined .ensures))
+returns-3 c =
+    let x = c .before .before .before .before .before .before .before .before .before .before .before .args in
+    let m = x .self .machine in
+    takes (receiveNo m (x .key)) m (receivedOf m (x .key))
+    (simp (
+      lt-leb _ _ (c .before .before .before .before .before .before .before .before .before .if1 .left),
+      eq-eqb _ _ (c .before .before .before .before .before .before .if2 .left),
+    ))
+    (simp (c .before .joined .ensures, c .awaited-view .ensures))
 
 pub receive-spec : {M : Type 1} → statement M
 receive-spec =
@@ -106,6 +125,7 @@ receive-spec =
     mul-joined-2
     add-joined
     joined-requires
+    awaited-view-requires
     mul-view
     element-set-from-view
     mul-queue

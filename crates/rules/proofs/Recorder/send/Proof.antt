@@ -28,21 +28,39 @@ refused-requires-3 c κs = search needs
 
 returns-3 : tie.Need-returns-3
 unfolding sendNo
-returns-3 c = c .refused3 .ensures ∙ simp (lt-leb _ _ (c .before .before .before .if1 .left), lt-leb _ _ (c .before .before .if2 .left), le-leb _ _ (c .before .if3 .taken))
+returns-3 c =
+    c .refused3 .ensures ∙ simp (
+      lt-leb _ _ (c .before .before .before .if1 .left),
+      lt-leb _ _ (c .before .before .if2 .left),
+      le-leb _ _ (c .before .if3 .taken),
+    )
 
 refused-requires-4 : tie.Need-refused-requires-4
 refused-requires-4 c κs = search needs
 
 returns-4 : tie.Need-returns-4
 unfolding sendNo
-returns-4 c = c .refused4 .ensures ∙ simp (lt-leb _ _ (c .before .before .before .before .if1 .left), lt-leb _ _ (c .before .before .before .if2 .left), lt-leb _ _ (c .before .before .if3 .left), eq-eqb _ _ (c .before .if4 .taken))
+returns-4 c =
+    c .refused4 .ensures ∙ simp (
+      lt-leb _ _ (c .before .before .before .before .if1 .left),
+      lt-leb _ _ (c .before .before .before .if2 .left),
+      lt-leb _ _ (c .before .before .if3 .left),
+      eq-eqb _ _ (c .before .if4 .taken),
+    )
 
 refused-requires-5 : tie.Need-refused-requires-5
 refused-requires-5 c κs = search needs
 
 returns-5 : tie.Need-returns-5
 unfolding sendNo
-returns-5 c = c .refused5 .ensures ∙ simp (lt-leb _ _ (c .before .before .before .before .before .if1 .left), lt-leb _ _ (c .before .before .before .before .if2 .left), lt-leb _ _ (c .before .before .before .if3 .left), ne-eqb _ _ (c .before .before .if4 .left), le-leb _ _ (c .before .if5 .taken))
+returns-5 c =
+    c .refused5 .ensures ∙ simp (
+      lt-leb _ _ (c .before .before .before .before .before .if1 .left),
+      lt-leb _ _ (c .before .before .before .before .if2 .left),
+      lt-leb _ _ (c .before .before .before .if3 .left),
+      ne-eqb _ _ (c .before .before .if4 .left),
+      le-leb _ _ (c .before .if5 .taken),
+    )
 
 element-copy-out-if6 : tie.Need-element-copy-out-if6
 element-copy-out-if6 c = search needs
@@ -55,7 +73,15 @@ refused-requires-6 c κs = search needs
 
 returns-6 : tie.Need-returns-6
 unfolding sendNo
-returns-6 c = c .refused6 .ensures ∙ simp (lt-leb _ _ (c .before .before .before .before .before .before .before .if1 .left), lt-leb _ _ (c .before .before .before .before .before .before .if2 .left), lt-leb _ _ (c .before .before .before .before .before .if3 .left), ne-eqb _ _ (c .before .before .before .before .if4 .left), lt-leb _ _ (c .before .before .before .if5 .left), ne-eqb _ _ (c .before .if6 .taken))
+returns-6 c =
+    c .refused6 .ensures ∙ simp (
+      lt-leb _ _ (c .before .before .before .before .before .before .before .if1 .left),
+      lt-leb _ _ (c .before .before .before .before .before .before .if2 .left),
+      lt-leb _ _ (c .before .before .before .before .before .if3 .left),
+      ne-eqb _ _ (c .before .before .before .before .if4 .left),
+      lt-leb _ _ (c .before .before .before .if5 .left),
+      ne-eqb _ _ (c .before .if6 .taken),
+    )
 
 causes-known-requires : tie.Need-causes-known-requires
 causes-known-requires c κs = search needs
@@ -65,14 +91,40 @@ refused-requires-7 c κs = search needs
 
 returns-7 : tie.Need-returns-7
 unfolding sendNo causesKnown
-returns-7 c = let x = c .before .before .before .before .before .before .before .before .before .before .before .before .args in let m = x .self .machine in let unknown : causesKnown m (x .from) (x .causes) ≡ false = sym (c .before .before .causes-known .ensures) ∙ not-true _ (c .before .if7 .taken) in c .refused7 .ensures ∙ simp (lt-leb _ _ (c .before .before .before .before .before .before .before .before .before .before .if1 .left), lt-leb _ _ (c .before .before .before .before .before .before .before .before .before .if2 .left), lt-leb _ _ (c .before .before .before .before .before .before .before .before .if3 .left), ne-eqb _ _ (c .before .before .before .before .before .before .before .if4 .left), lt-leb _ _ (c .before .before .before .before .before .before .if5 .left), eq-eqb _ _ (c .before .before .before .before .if6 .left), unknown)
+returns-7 c =
+    let x = c .before .before .before .before .before .before .before .before .before .before .before .before .args in
+    let m = x .self .machine in
+    let unknown : causesKnown m (x .from) (x .causes) ≡ false = sym (c .before .before .causes-known .ensures) ∙ not-true _ (c .before .if7 .taken) in
+    c .refused7 .ensures ∙ simp (
+      lt-leb _ _ (c .before .before .before .before .before .before .before .before .before .before .if1 .left),
+      lt-leb _ _ (c .before .before .before .before .before .before .before .before .before .if2 .left),
+      lt-leb _ _ (c .before .before .before .before .before .before .before .before .if3 .left),
+      ne-eqb _ _ (c .before .before .before .before .before .before .before .if4 .left),
+      lt-leb _ _ (c .before .before .before .before .before .before .if5 .left),
+      eq-eqb _ _ (c .before .before .before .before .if6 .left),
+      unknown,
+    )
 
 sent-requires : tie.Need-sent-requires
 sent-requires c κs = search needs
 
 returns-8 : tie.Need-returns-8
 unfolding sendNo causesKnown
-returns-8 c = let x = c .before .before .before .before .before .before .before .before .before .before .before .before .args in let m = x .self .machine in let known : causesKnown m (x .from) (x .causes) ≡ true = sym (c .before .before .causes-known .ensures) ∙ not-false _ (c .before .if7 .left) in takes (sendNo m (x .from) (x .to) (x .own) (x .causes)) m (sent m (x .from) (x .to) (x .own) (x .word) (x .causes)) (simp (lt-leb _ _ (c .before .before .before .before .before .before .before .before .before .before .if1 .left), lt-leb _ _ (c .before .before .before .before .before .before .before .before .before .if2 .left), lt-leb _ _ (c .before .before .before .before .before .before .before .before .if3 .left), ne-eqb _ _ (c .before .before .before .before .before .before .before .if4 .left), lt-leb _ _ (c .before .before .before .before .before .before .if5 .left), eq-eqb _ _ (c .before .before .before .before .if6 .left), known)) (c .sent .ensures)
+returns-8 c =
+    let x = c .before .before .before .before .before .before .before .before .before .before .before .before .args in
+    let m = x .self .machine in
+    let known : causesKnown m (x .from) (x .causes) ≡ true = sym (c .before .before .causes-known .ensures) ∙ not-false _ (c .before .if7 .left) in
+    takes (sendNo m (x .from) (x .to) (x .own) (x .causes)) m (sent m (x .from) (x .to) (x .own) (x .word) (x .causes))
+    (simp (
+      lt-leb _ _ (c .before .before .before .before .before .before .before .before .before .before .if1 .left),
+      lt-leb _ _ (c .before .before .before .before .before .before .before .before .before .if2 .left),
+      lt-leb _ _ (c .before .before .before .before .before .before .before .before .if3 .left),
+      ne-eqb _ _ (c .before .before .before .before .before .before .before .if4 .left),
+      lt-leb _ _ (c .before .before .before .before .before .before .if5 .left),
+      eq-eqb _ _ (c .before .before .before .before .if6 .left),
+      known,
+    ))
+    (c .sent .ensures)
 
 pub send-spec : {M : Type 1} → statement M
 send-spec =

@@ -44,7 +44,12 @@ refused-requires-3 c κs = search needs
 
 returns-3 : tie.Need-returns-3
 unfolding sendUpdateNo
-returns-3 c = c .refused3 .ensures ∙ simp (lt-leb _ _ (c .before .before .before .before .before .if1 .left), lt-leb _ _ (c .before .before .before .before .if2 .left), told-not (c .before .before .status-number .ensures) (c .before .if3 .taken))
+returns-3 c =
+    c .refused3 .ensures ∙ simp (
+      lt-leb _ _ (c .before .before .before .before .before .if1 .left),
+      lt-leb _ _ (c .before .before .before .before .if2 .left),
+      told-not (c .before .before .status-number .ensures) (c .before .if3 .taken),
+    )
 
 cast-at : tie.Need-cast-at
 cast-at c = search needs
@@ -56,7 +61,9 @@ add-at : tie.Need-add-at
 add-at c = search needs
 
 element-copy-out-one-more : tie.Need-element-copy-out-one-more
-element-copy-out-one-more c = let start = c .before .before .before .before .before .before .before in omega (arith, start .pre .destinationIn8 (start .args .key * 2 + start .args .role) (omega arith))
+element-copy-out-one-more c =
+    let start = c .before .before .before .before .before .before .before in
+    omega (arith, start .pre .destinationIn8 (start .args .key * 2 + start .args .role) (omega arith))
 
 one-more-requires : tie.Need-one-more-requires
 one-more-requires c κs = search needs
@@ -68,11 +75,22 @@ element-set-from-entry : tie.Need-element-set-from-entry
 element-set-from-entry c = search needs
 
 element-write-m : tie.Need-element-write-m
-element-write-m c = let start = c .before .before .before .before .before .before .before .before .before in omega (arith, start .pre .destinationIn8 (start .args .key * 2 + start .args .role) (omega arith))
+element-write-m c =
+    let start = c .before .before .before .before .before .before .before .before .before in
+    omega (arith, start .pre .destinationIn8 (start .args .key * 2 + start .args .role) (omega arith))
 
 returns-4 : tie.Need-returns-4
 unfolding sendUpdateNo updateSent
-returns-4 c = let x = c .before .before .before .before .before .before .before .before .before .args in let m = x .self .machine in takes (sendUpdateNo m (x .key) (x .role)) m (updateSent m (x .key) (x .role)) (simp (lt-leb _ _ (c .before .before .before .before .before .before .before .if1 .left), lt-leb _ _ (c .before .before .before .before .before .before .if2 .left), told (c .before .before .before .before .status-number .ensures) (c .before .before .before .if3 .left))) (simp (c .one-more .ensures))
+returns-4 c =
+    let x = c .before .before .before .before .before .before .before .before .before .args in
+    let m = x .self .machine in
+    takes (sendUpdateNo m (x .key) (x .role)) m (updateSent m (x .key) (x .role))
+    (simp (
+      lt-leb _ _ (c .before .before .before .before .before .before .before .if1 .left),
+      lt-leb _ _ (c .before .before .before .before .before .before .if2 .left),
+      told (c .before .before .before .before .status-number .ensures) (c .before .before .before .if3 .left),
+    ))
+    (simp (c .one-more .ensures))
 
 pub send-update-spec : {M : Type 1} → statement M
 send-update-spec =

@@ -29,7 +29,11 @@ mul-joined-2 : tie.Need-mul-joined-2
 mul-joined-2 c = search needs
 
 joined-requires : tie.Need-joined-requires
-joined-requires c κs = let start = c .before .before .before .before .before in start .pre .0 .sendRoom (start .args .from) (omega arith) (omega arith)
+joined-requires c κs =
+    let start = c .before .before .before .before .before in start .pre .0 .sendRoom (start .args .from) (omega arith) (omega arith)
+
+awaited-view-requires : tie.Need-awaited-view-requires
+awaited-view-requires c κs = search needs
 
 mul-sender : tie.Need-mul-sender
 mul-sender c = search needs
@@ -69,7 +73,8 @@ add-m c = search needs
 
 returns : tie.Need-returns
 unfolding sent
-returns c = simp (c .joined .ensures, c .before .before .before .home-links .ensures, add-zero)
+returns c =
+    simp (c .before .joined .ensures, c .before .before .before .before .home-links .ensures, c .awaited-view .ensures, add-zero)
 
 pub sent-spec : {M : Type 1} → statement M
 sent-spec =
@@ -83,6 +88,7 @@ sent-spec =
     element-copy-out-joined
     mul-joined-2
     joined-requires
+    awaited-view-requires
     mul-sender
     mul-sender-2
     element-set-from-sender

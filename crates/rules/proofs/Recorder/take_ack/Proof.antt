@@ -29,7 +29,12 @@ refused-requires-3 c κs = search needs
 
 returns-3 : tie.Need-returns-3
 unfolding takeAckNo
-returns-3 c = c .refused3 .ensures ∙ simp (lt-leb _ _ (c .before .before .before .if1 .left), lt-leb _ _ (c .before .before .if2 .left), le-leb _ _ (c .before .if3 .taken))
+returns-3 c =
+    c .refused3 .ensures ∙ simp (
+      lt-leb _ _ (c .before .before .before .if1 .left),
+      lt-leb _ _ (c .before .before .if2 .left),
+      le-leb _ _ (c .before .if3 .taken),
+    )
 
 mul-v : tie.Need-mul-v
 mul-v c = search needs
@@ -51,7 +56,13 @@ refused-requires-4 c κs = search needs
 
 returns-4 : tie.Need-returns-4
 unfolding takeAckNo
-returns-4 c = c .refused4 .ensures ∙ simp (lt-leb _ _ (c .before .before .before .before .before .if1 .left), lt-leb _ _ (c .before .before .before .before .if2 .left), lt-leb _ _ (c .before .before .before .if3 .left), eq-eqb _ _ (c .before .if4 .taken))
+returns-4 c =
+    c .refused4 .ensures ∙ simp (
+      lt-leb _ _ (c .before .before .before .before .before .if1 .left),
+      lt-leb _ _ (c .before .before .before .before .if2 .left),
+      lt-leb _ _ (c .before .before .before .if3 .left),
+      eq-eqb _ _ (c .before .if4 .taken),
+    )
 
 mul-w : tie.Need-mul-w
 mul-w c = search needs
@@ -66,7 +77,9 @@ mul-acked : tie.Need-mul-acked
 mul-acked c = search needs
 
 element-copy-out-acked : tie.Need-element-copy-out-acked
-element-copy-out-acked c = let start = c .before .before .before .before .before .before .before .before in omega (arith, start .pre .actorIn8 (start .args .key * 2 + start .args .role) (omega arith))
+element-copy-out-acked c =
+    let start = c .before .before .before .before .before .before .before .before in
+    omega (arith, start .pre .actorIn8 (start .args .key * 2 + start .args .role) (omega arith))
 
 mul-acked-2 : tie.Need-mul-acked-2
 mul-acked-2 c = search needs
@@ -91,7 +104,17 @@ element-write-m c = search needs
 
 returns-5 : tie.Need-returns-5
 unfolding takeAckNo ackTaken
-returns-5 c = let x = c .before .before .before .before .before .before .before .before .before .before .args in let m = x .self .machine in takes (takeAckNo m (x .store) (x .key) (x .role)) m (ackTaken m (x .store) (x .key) (x .role)) (simp (lt-leb _ _ (c .before .before .before .before .before .before .before .before .if1 .left), lt-leb _ _ (c .before .before .before .before .before .before .before .if2 .left), lt-leb _ _ (c .before .before .before .before .before .before .if3 .left), ne-eqb _ _ (c .before .before .before .before .if4 .left))) (simp (c .acked .ensures))
+returns-5 c =
+    let x = c .before .before .before .before .before .before .before .before .before .before .args in
+    let m = x .self .machine in
+    takes (takeAckNo m (x .store) (x .key) (x .role)) m (ackTaken m (x .store) (x .key) (x .role))
+    (simp (
+      lt-leb _ _ (c .before .before .before .before .before .before .before .before .if1 .left),
+      lt-leb _ _ (c .before .before .before .before .before .before .before .if2 .left),
+      lt-leb _ _ (c .before .before .before .before .before .before .if3 .left),
+      ne-eqb _ _ (c .before .before .before .before .if4 .left),
+    ))
+    (simp (c .acked .ensures))
 
 pub take-ack-spec : {M : Type 1} → statement M
 take-ack-spec =

@@ -29,7 +29,12 @@ refused-requires-3 c κs = search needs
 
 returns-3 : tie.Need-returns-3
 unfolding takeRecordNo
-returns-3 c = c .refused3 .ensures ∙ simp (lt-leb _ _ (c .before .before .before .if1 .left), lt-leb _ _ (c .before .before .if2 .left), le-leb _ _ (c .before .if3 .taken))
+returns-3 c =
+    c .refused3 .ensures ∙ simp (
+      lt-leb _ _ (c .before .before .before .if1 .left),
+      lt-leb _ _ (c .before .before .if2 .left),
+      le-leb _ _ (c .before .if3 .taken),
+    )
 
 element-copy-out-if4 : tie.Need-element-copy-out-if4
 element-copy-out-if4 c = search needs
@@ -39,7 +44,13 @@ refused-requires-4 c κs = search needs
 
 returns-4 : tie.Need-returns-4
 unfolding takeRecordNo
-returns-4 c = c .refused4 .ensures ∙ simp (lt-leb _ _ (c .before .before .before .before .before .if1 .left), lt-leb _ _ (c .before .before .before .before .if2 .left), lt-leb _ _ (c .before .before .before .if3 .left), c .before .if4 .taken)
+returns-4 c =
+    c .refused4 .ensures ∙ simp (
+      lt-leb _ _ (c .before .before .before .before .before .if1 .left),
+      lt-leb _ _ (c .before .before .before .before .if2 .left),
+      lt-leb _ _ (c .before .before .before .if3 .left),
+      c .before .if4 .taken,
+    )
 
 mul-v : tie.Need-mul-v
 mul-v c = search needs
@@ -53,15 +64,22 @@ mul-at c = search needs
 add-at : tie.Need-add-at
 add-at c = search needs
 
-element-copy-out-copies : tie.Need-element-copy-out-copies
-element-copy-out-copies c = search needs
+element-copy-out-if5 : tie.Need-element-copy-out-if5
+element-copy-out-if5 c = search needs
 
 refused-requires-5 : tie.Need-refused-requires-5
 refused-requires-5 c κs = search needs
 
 returns-5 : tie.Need-returns-5
 unfolding takeRecordNo
-returns-5 c = c .refused5 .ensures ∙ simp (lt-leb _ _ (c .before .before .before .before .before .before .before .if1 .left), lt-leb _ _ (c .before .before .before .before .before .before .if2 .left), lt-leb _ _ (c .before .before .before .before .before .if3 .left), c .before .before .before .if4 .left, eq-eqb _ _ (c .before .if5 .taken))
+returns-5 c =
+    c .refused5 .ensures ∙ simp (
+      lt-leb _ _ (c .before .before .before .before .before .before .before .if1 .left),
+      lt-leb _ _ (c .before .before .before .before .before .before .if2 .left),
+      lt-leb _ _ (c .before .before .before .before .before .if3 .left),
+      c .before .before .before .if4 .left,
+      eq-eqb _ _ (c .before .if5 .taken),
+    )
 
 mul-sender : tie.Need-mul-sender
 mul-sender c = search needs
@@ -97,13 +115,18 @@ element-copy-out-written-viewlink : tie.Need-element-copy-out-written-viewlink
 element-copy-out-written-viewlink c = search needs
 
 written-viewlink-requires : tie.Need-written-viewlink-requires
-written-viewlink-requires c κs = let start = c .before .before .before .before .before .before .before .before .before .before .before .before .before .before in omega (arith, start .pre .viewlinkIn8 (start .args .key * 2 + start .args .role) (omega arith))
+written-viewlink-requires c κs =
+    let start = c .before .before .before .before .before .before .before .before .before .before .before .before .before .before in
+    omega (arith, start .pre .viewlinkIn8 (start .args .key * 2 + start .args .role) (omega arith))
 
 element-copy-out-one-more : tie.Need-element-copy-out-one-more
 element-copy-out-one-more c = search needs
 
 one-more-requires : tie.Need-one-more-requires
 one-more-requires c κs = search needs
+
+element-copy-out-m : tie.Need-element-copy-out-m
+element-copy-out-m c = search needs
 
 sub-m : tie.Need-sub-m
 sub-m c = search needs
@@ -131,7 +154,23 @@ element-write-m-3 c = search needs
 
 returns-6 : tie.Need-returns-6
 unfolding takeRecordNo recordTaken
-returns-6 c = let x = c .before .before .before .before .before .before .before .before .before .before .before .before .before .before .before .before .before .args in let m = x .self .machine in takes (takeRecordNo m (x .store) (x .key) (x .role)) m (recordTaken m (x .store) (x .key) (x .role)) (simp (lt-leb _ _ (c .before .before .before .before .before .before .before .before .before .before .before .before .before .before .before .if1 .left), lt-leb _ _ (c .before .before .before .before .before .before .before .before .before .before .before .before .before .before .if2 .left), lt-leb _ _ (c .before .before .before .before .before .before .before .before .before .before .before .before .before .if3 .left), c .before .before .before .before .before .before .before .before .before .before .before .if4 .left, ne-eqb _ _ (c .before .before .before .before .before .before .before .before .before .if5 .left))) (simp (c .before .before .before .before .before .before .written-contents .ensures, c .before .before .before .before .written-links .ensures, c .before .before .written-viewlink .ensures, c .one-more .ensures))
+returns-6 c =
+    let x = c .before .before .before .before .before .before .before .before .before .before .before .before .before .before .before .before .before .before .args in
+    let m = x .self .machine in
+    takes (takeRecordNo m (x .store) (x .key) (x .role)) m (recordTaken m (x .store) (x .key) (x .role))
+    (simp (
+      lt-leb _ _ (c .before .before .before .before .before .before .before .before .before .before .before .before .before .before .before .before .if1 .left),
+      lt-leb _ _ (c .before .before .before .before .before .before .before .before .before .before .before .before .before .before .before .if2 .left),
+      lt-leb _ _ (c .before .before .before .before .before .before .before .before .before .before .before .before .before .before .if3 .left),
+      c .before .before .before .before .before .before .before .before .before .before .before .before .if4 .left,
+      ne-eqb _ _ (c .before .before .before .before .before .before .before .before .before .before .if5 .left),
+    ))
+    (simp (
+      c .before .before .before .before .before .before .before .written-contents .ensures,
+      c .before .before .before .before .before .written-links .ensures,
+      c .before .before .before .written-viewlink .ensures,
+      c .before .one-more .ensures,
+    ))
 
 pub take-record-spec : {M : Type 1} → statement M
 take-record-spec =
@@ -150,7 +189,7 @@ take-record-spec =
     add-v
     mul-at
     add-at
-    element-copy-out-copies
+    element-copy-out-if5
     refused-requires-5
     returns-5
     mul-sender
@@ -167,6 +206,7 @@ take-record-spec =
     written-viewlink-requires
     element-copy-out-one-more
     one-more-requires
+    element-copy-out-m
     sub-m
     element-write-m
     element-write-m-2

@@ -39,7 +39,12 @@ refused-requires-3 c κs = search needs
 
 returns-3 : tie.Need-returns-3
 unfolding takeRepairNo
-returns-3 c = c .refused3 .ensures ∙ simp (lt-leb _ _ (c .before .before .before .before .before .if1 .left), lt-leb _ _ (c .before .before .before .before .if2 .left), c .before .if3 .taken)
+returns-3 c =
+    c .refused3 .ensures ∙ simp (
+      lt-leb _ _ (c .before .before .before .before .before .if1 .left),
+      lt-leb _ _ (c .before .before .before .before .if2 .left),
+      c .before .if3 .taken,
+    )
 
 mul-o : tie.Need-mul-o
 mul-o c = search needs
@@ -82,7 +87,16 @@ element-set-from-nothing c = search needs
 
 returns-4 : tie.Need-returns-4
 unfolding takeRepairNo repairTaken
-returns-4 c = let x = c .before .before .before .before .before .before .before .before .before .args in let m = x .self .machine in takes (takeRepairNo m (x .key) (x .role)) m (repairTaken m (x .key) (x .role)) (simp (lt-leb _ _ (c .before .before .before .before .before .before .before .if1 .left), lt-leb _ _ (c .before .before .before .before .before .before .if2 .left), c .before .before .before .if3 .left)) (simp (c .before .repaired-entry .ensures, c .redirected-entry .ensures))
+returns-4 c =
+    let x = c .before .before .before .before .before .before .before .before .before .args in
+    let m = x .self .machine in
+    takes (takeRepairNo m (x .key) (x .role)) m (repairTaken m (x .key) (x .role))
+    (simp (
+      lt-leb _ _ (c .before .before .before .before .before .before .before .if1 .left),
+      lt-leb _ _ (c .before .before .before .before .before .before .if2 .left),
+      c .before .before .before .if3 .left,
+    ))
+    (simp (c .before .repaired-entry .ensures, c .redirected-entry .ensures))
 
 pub take-repair-spec : {M : Type 1} → statement M
 take-repair-spec =

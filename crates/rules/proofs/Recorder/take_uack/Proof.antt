@@ -27,7 +27,12 @@ refused-requires-3 c κs = search needs
 
 returns-3 : tie.Need-returns-3
 unfolding takeUackNo
-returns-3 c = c .refused3 .ensures ∙ simp (lt-leb _ _ (c .before .before .before .if1 .left), lt-leb _ _ (c .before .before .if2 .left), le-leb _ _ (c .before .if3 .taken))
+returns-3 c =
+    c .refused3 .ensures ∙ simp (
+      lt-leb _ _ (c .before .before .before .if1 .left),
+      lt-leb _ _ (c .before .before .if2 .left),
+      le-leb _ _ (c .before .if3 .taken),
+    )
 
 mul-v : tie.Need-mul-v
 mul-v c = search needs
@@ -49,7 +54,13 @@ refused-requires-4 c κs = search needs
 
 returns-4 : tie.Need-returns-4
 unfolding takeUackNo
-returns-4 c = c .refused4 .ensures ∙ simp (lt-leb _ _ (c .before .before .before .before .before .if1 .left), lt-leb _ _ (c .before .before .before .before .if2 .left), lt-leb _ _ (c .before .before .before .if3 .left), eq-eqb _ _ (c .before .if4 .taken))
+returns-4 c =
+    c .refused4 .ensures ∙ simp (
+      lt-leb _ _ (c .before .before .before .before .before .if1 .left),
+      lt-leb _ _ (c .before .before .before .before .if2 .left),
+      lt-leb _ _ (c .before .before .before .if3 .left),
+      eq-eqb _ _ (c .before .if4 .taken),
+    )
 
 mul-finished-entry : tie.Need-mul-finished-entry
 mul-finished-entry c = search needs
@@ -74,7 +85,17 @@ element-write-m c = search needs
 
 returns-5 : tie.Need-returns-5
 unfolding takeUackNo uackTaken
-returns-5 c = let x = c .before .before .before .before .before .before .before .before .args in let m = x .self .machine in takes (takeUackNo m (x .store) (x .key) (x .role)) m (uackTaken m (x .store) (x .key) (x .role)) (simp (lt-leb _ _ (c .before .before .before .before .before .before .if1 .left), lt-leb _ _ (c .before .before .before .before .before .if2 .left), lt-leb _ _ (c .before .before .before .before .if3 .left), ne-eqb _ _ (c .before .before .if4 .left))) (simp (c .finished-entry .ensures))
+returns-5 c =
+    let x = c .before .before .before .before .before .before .before .before .args in
+    let m = x .self .machine in
+    takes (takeUackNo m (x .store) (x .key) (x .role)) m (uackTaken m (x .store) (x .key) (x .role))
+    (simp (
+      lt-leb _ _ (c .before .before .before .before .before .before .if1 .left),
+      lt-leb _ _ (c .before .before .before .before .before .if2 .left),
+      lt-leb _ _ (c .before .before .before .before .if3 .left),
+      ne-eqb _ _ (c .before .before .if4 .left),
+    ))
+    (simp (c .finished-entry .ensures))
 
 pub take-uack-spec : {M : Type 1} → statement M
 take-uack-spec =

@@ -29,7 +29,12 @@ refused-requires-3 c κs = search needs
 
 returns-3 : tie.Need-returns-3
 unfolding takeUpdateNo
-returns-3 c = c .refused3 .ensures ∙ simp (lt-leb _ _ (c .before .before .before .if1 .left), lt-leb _ _ (c .before .before .if2 .left), le-leb _ _ (c .before .if3 .taken))
+returns-3 c =
+    c .refused3 .ensures ∙ simp (
+      lt-leb _ _ (c .before .before .before .if1 .left),
+      lt-leb _ _ (c .before .before .if2 .left),
+      le-leb _ _ (c .before .if3 .taken),
+    )
 
 element-copy-out-if4 : tie.Need-element-copy-out-if4
 element-copy-out-if4 c = search needs
@@ -39,7 +44,13 @@ refused-requires-4 c κs = search needs
 
 returns-4 : tie.Need-returns-4
 unfolding takeUpdateNo
-returns-4 c = c .refused4 .ensures ∙ simp (lt-leb _ _ (c .before .before .before .before .before .if1 .left), lt-leb _ _ (c .before .before .before .before .if2 .left), lt-leb _ _ (c .before .before .before .if3 .left), c .before .if4 .taken)
+returns-4 c =
+    c .refused4 .ensures ∙ simp (
+      lt-leb _ _ (c .before .before .before .before .before .if1 .left),
+      lt-leb _ _ (c .before .before .before .before .if2 .left),
+      lt-leb _ _ (c .before .before .before .if3 .left),
+      c .before .if4 .taken,
+    )
 
 mul-v : tie.Need-mul-v
 mul-v c = search needs
@@ -61,7 +72,14 @@ refused-requires-5 c κs = search needs
 
 returns-5 : tie.Need-returns-5
 unfolding takeUpdateNo
-returns-5 c = c .refused5 .ensures ∙ simp (lt-leb _ _ (c .before .before .before .before .before .before .before .if1 .left), lt-leb _ _ (c .before .before .before .before .before .before .if2 .left), lt-leb _ _ (c .before .before .before .before .before .if3 .left), c .before .before .before .if4 .left, eq-eqb _ _ (c .before .if5 .taken))
+returns-5 c =
+    c .refused5 .ensures ∙ simp (
+      lt-leb _ _ (c .before .before .before .before .before .before .before .if1 .left),
+      lt-leb _ _ (c .before .before .before .before .before .before .if2 .left),
+      lt-leb _ _ (c .before .before .before .before .before .if3 .left),
+      c .before .before .before .if4 .left,
+      eq-eqb _ _ (c .before .if5 .taken),
+    )
 
 mul-opposite : tie.Need-mul-opposite
 mul-opposite c = search needs
@@ -97,7 +115,9 @@ element-write-m : tie.Need-element-write-m
 element-write-m c = search needs
 
 add-m : tie.Need-add-m
-add-m c = let start = c .before .before .before .before .before .before .before .before .before .before .before .before in omega (arith, start .pre .ownIn8 (start .args .key * 2 + start .args .role) (omega arith))
+add-m c =
+    let start = c .before .before .before .before .before .before .before .before .before .before .before .before in
+    omega (arith, start .pre .ownIn8 (start .args .key * 2 + start .args .role) (omega arith))
 
 element-write-m-2 : tie.Need-element-write-m-2
 element-write-m-2 c = search needs
@@ -107,7 +127,18 @@ element-write-m-3 c = search needs
 
 returns-6 : tie.Need-returns-6
 unfolding takeUpdateNo updateTaken
-returns-6 c = let x = c .before .before .before .before .before .before .before .before .before .before .before .before .args in let m = x .self .machine in takes (takeUpdateNo m (x .store) (x .key) (x .role)) m (updateTaken m (x .store) (x .key) (x .role)) (simp (lt-leb _ _ (c .before .before .before .before .before .before .before .before .before .before .if1 .left), lt-leb _ _ (c .before .before .before .before .before .before .before .before .before .if2 .left), lt-leb _ _ (c .before .before .before .before .before .before .before .before .if3 .left), c .before .before .before .before .before .before .if4 .left, ne-eqb _ _ (c .before .before .before .before .if5 .left))) (simp (c .before .one-more .ensures))
+returns-6 c =
+    let x = c .before .before .before .before .before .before .before .before .before .before .before .before .args in
+    let m = x .self .machine in
+    takes (takeUpdateNo m (x .store) (x .key) (x .role)) m (updateTaken m (x .store) (x .key) (x .role))
+    (simp (
+      lt-leb _ _ (c .before .before .before .before .before .before .before .before .before .before .if1 .left),
+      lt-leb _ _ (c .before .before .before .before .before .before .before .before .before .if2 .left),
+      lt-leb _ _ (c .before .before .before .before .before .before .before .before .if3 .left),
+      c .before .before .before .before .before .before .if4 .left,
+      ne-eqb _ _ (c .before .before .before .before .if5 .left),
+    ))
+    (simp (c .before .one-more .ensures))
 
 pub take-update-spec : {M : Type 1} → statement M
 take-update-spec =

@@ -34,26 +34,43 @@ refused-requires-3 c κs = search needs
 
 returns-3 : tie.Need-returns-3
 unfolding timeoutNo
-returns-3 c = c .refused3 .ensures ∙ simp (lt-leb _ _ (c .before .before .before .before .if1 .left), lt-leb _ _ (c .before .before .before .if2 .left), eq-eqb _ _ (c .before .if3 .taken))
+returns-3 c =
+    c .refused3 .ensures ∙ simp (
+      lt-leb _ _ (c .before .before .before .before .if1 .left),
+      lt-leb _ _ (c .before .before .before .if2 .left),
+      eq-eqb _ _ (c .before .if3 .taken),
+    )
 
 element-copy-out-head : tie.Need-element-copy-out-head
 element-copy-out-head c = search needs
 
 cast-head : tie.Need-cast-head
-cast-head c = let start = c .before .before .before .before .before .before in omega (arith, start .pre .headIn32 (start .args .actor) (omega arith))
+cast-head c =
+    let start = c .before .before .before .before .before .before in
+    omega (arith, start .pre .headIn32 (start .args .actor) (omega arith))
 
 mul-w : tie.Need-mul-w
-mul-w c = let start = c .before .before .before .before .before .before in omega (arith, start .pre .headIn32 (start .args .actor) (omega arith))
+mul-w c =
+    let start = c .before .before .before .before .before .before in
+    omega (arith, start .pre .headIn32 (start .args .actor) (omega arith))
 
 element-copy-out-w : tie.Need-element-copy-out-w
-element-copy-out-w c = let start = c .before .before .before .before .before .before in omega (arith, start .pre .headIn32 (start .args .actor) (omega arith))
+element-copy-out-w c =
+    let start = c .before .before .before .before .before .before in
+    omega (arith, start .pre .headIn32 (start .args .actor) (omega arith))
 
 refused-requires-4 : tie.Need-refused-requires-4
 refused-requires-4 c κs = search needs
 
 returns-4 : tie.Need-returns-4
 unfolding timeoutNo
-returns-4 c = c .refused4 .ensures ∙ simp (lt-leb _ _ (c .before .before .before .before .before .before .before .before .if1 .left), lt-leb _ _ (c .before .before .before .before .before .before .before .if2 .left), ne-eqb _ _ (c .before .before .before .before .before .if3 .left), ne-eqb _ _ (c .before .if4 .taken))
+returns-4 c =
+    c .refused4 .ensures ∙ simp (
+      lt-leb _ _ (c .before .before .before .before .before .before .before .before .if1 .left),
+      lt-leb _ _ (c .before .before .before .before .before .before .before .if2 .left),
+      ne-eqb _ _ (c .before .before .before .before .before .if3 .left),
+      ne-eqb _ _ (c .before .if4 .taken),
+    )
 
 element-copy-out-if5 : tie.Need-element-copy-out-if5
 element-copy-out-if5 c = search needs
@@ -66,24 +83,55 @@ refused-requires-5 c κs = search needs
 
 returns-5 : tie.Need-returns-5
 unfolding timeoutNo
-returns-5 c = c .refused5 .ensures ∙ simp (lt-leb _ _ (c .before .before .before .before .before .before .before .before .before .before .if1 .left), lt-leb _ _ (c .before .before .before .before .before .before .before .before .before .if2 .left), ne-eqb _ _ (c .before .before .before .before .before .before .before .if3 .left), eq-eqb _ _ (c .before .before .before .if4 .left), ne-eqb _ _ (c .before .if5 .taken))
+returns-5 c =
+    c .refused5 .ensures ∙ simp (
+      lt-leb _ _ (c .before .before .before .before .before .before .before .before .before .before .if1 .left),
+      lt-leb _ _ (c .before .before .before .before .before .before .before .before .before .if2 .left),
+      ne-eqb _ _ (c .before .before .before .before .before .before .before .if3 .left),
+      eq-eqb _ _ (c .before .before .before .if4 .left),
+      ne-eqb _ _ (c .before .if5 .taken),
+    )
 
 refused-requires-6 : tie.Need-refused-requires-6
 refused-requires-6 c κs = search needs
 
 returns-6 : tie.Need-returns-6
 unfolding timeoutNo
-returns-6 c = c .refused6 .ensures ∙ simp (lt-leb _ _ (c .before .before .before .before .before .before .before .before .before .before .before .before .if1 .left), lt-leb _ _ (c .before .before .before .before .before .before .before .before .before .before .before .if2 .left), ne-eqb _ _ (c .before .before .before .before .before .before .before .before .before .if3 .left), eq-eqb _ _ (c .before .before .before .before .before .if4 .left), eq-eqb _ _ (c .before .before .before .if5 .left), eq-eqb _ _ (c .before .if6 .taken))
+returns-6 c =
+    c .refused6 .ensures ∙ simp (
+      lt-leb _ _ (c .before .before .before .before .before .before .before .before .before .before .before .before .if1 .left),
+      lt-leb _ _ (c .before .before .before .before .before .before .before .before .before .before .before .if2 .left),
+      ne-eqb _ _ (c .before .before .before .before .before .before .before .before .before .if3 .left),
+      eq-eqb _ _ (c .before .before .before .before .before .if4 .left),
+      eq-eqb _ _ (c .before .before .before .if5 .left),
+      eq-eqb _ _ (c .before .if6 .taken),
+    )
 
 mul-w-2 : tie.Need-mul-w-2
-mul-w-2 c = let start = c .before .before .before .before .before .before .before .before .before .before .before .before .before in omega (arith, start .pre .headIn32 (start .args .actor) (omega arith))
+mul-w-2 c =
+    let start = c .before .before .before .before .before .before .before .before .before .before .before .before .before in
+    omega (arith, start .pre .headIn32 (start .args .actor) (omega arith))
 
 element-set-from-w : tie.Need-element-set-from-w
-element-set-from-w c = let start = c .before .before .before .before .before .before .before .before .before .before .before .before .before in omega (arith, start .pre .headIn32 (start .args .actor) (omega arith))
+element-set-from-w c =
+    let start = c .before .before .before .before .before .before .before .before .before .before .before .before .before in
+    omega (arith, start .pre .headIn32 (start .args .actor) (omega arith))
 
 returns-7 : tie.Need-returns-7
 unfolding timeoutNo timedOut
-returns-7 c = let x = c .before .before .before .before .before .before .before .before .before .before .before .before .before .args in let m = x .self .machine in takes (timeoutNo m (x .actor) (x .store)) m (timedOut m (x .actor) (x .store)) (simp (lt-leb _ _ (c .before .before .before .before .before .before .before .before .before .before .before .if1 .left), lt-leb _ _ (c .before .before .before .before .before .before .before .before .before .before .if2 .left), ne-eqb _ _ (c .before .before .before .before .before .before .before .before .if3 .left), eq-eqb _ _ (c .before .before .before .before .if4 .left), eq-eqb _ _ (c .before .before .if5 .left), ne-eqb _ _ (c .if6 .left))) refl
+returns-7 c =
+    let x = c .before .before .before .before .before .before .before .before .before .before .before .before .before .args in
+    let m = x .self .machine in
+    takes (timeoutNo m (x .actor) (x .store)) m (timedOut m (x .actor) (x .store))
+    (simp (
+      lt-leb _ _ (c .before .before .before .before .before .before .before .before .before .before .before .if1 .left),
+      lt-leb _ _ (c .before .before .before .before .before .before .before .before .before .before .if2 .left),
+      ne-eqb _ _ (c .before .before .before .before .before .before .before .before .if3 .left),
+      eq-eqb _ _ (c .before .before .before .before .if4 .left),
+      eq-eqb _ _ (c .before .before .if5 .left),
+      ne-eqb _ _ (c .if6 .left),
+    ))
+    refl
 
 pub timeout-spec : {M : Type 1} → statement M
 timeout-spec =

@@ -58,7 +58,10 @@ array-read-t49 c = search needs
 
 returns : tie.Need-returns
 unfolding table
-returns c = let l = c .before .before .args .q .views in let e : length l ≡ 16 = search needs in λ i. record { len = c .before .before .args .q .len - 1; views = shifted l e i }
+returns c =
+    let l = c .before .before .args .q .views in
+    let e : length l ≡ 16 = search needs in
+    λ i. record { len = c .before .before .args .q .len - 1; views = shifted l e i }
 
 pub left-spec : {M : Type 1} → statement M
 left-spec =

@@ -24,7 +24,8 @@ cause-known-requires c κs = omega arith
 
 returns : tie.Need-returns Inv-loop μ-loop
 unfolding causesKnown
-returns c = pass-stop (c .before .before .before .loop .inv) (c .before .before .loop-test .taken) (sym (c .before .cause-known .ensures) ∙ not-true _ (c .if1 .taken))
+returns c =
+    pass-stop (c .before .before .before .loop .inv) (c .before .before .loop-test .taken) (sym (c .before .cause-known .ensures) ∙ not-true _ (c .if1 .taken))
 
 add-j : tie.Need-add-j Inv-loop μ-loop
 add-j c = omega arith
@@ -33,7 +34,8 @@ loop-less : tie.Need-loop-less Inv-loop μ-loop
 loop-less c = omega arith
 
 loop-again : tie.Need-loop-again Inv-loop μ-loop
-loop-again c = pass-step (c .before .before .before .loop .inv) (c .before .before .loop-test .taken) (sym (c .before .cause-known .ensures) ∙ not-false _ (c .if1 .left))
+loop-again c =
+    pass-step (c .before .before .before .loop .inv) (c .before .before .loop-test .taken) (sym (c .before .cause-known .ensures) ∙ not-false _ (c .if1 .left))
 
 returns-2 : tie.Need-returns-2 Inv-loop μ-loop
 unfolding causesKnown
