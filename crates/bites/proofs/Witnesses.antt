@@ -29,6 +29,7 @@ use Rattle.rules.specs.declared.Step.{Step}
 use Rattle.rules.specs.declared.Step.the-variants.{TakeAck}
 use Rattle.runs.specs.Run.{freshOf}
 use Rattle.runs.specs.Drain.{lowest, jobStep, entryStep, turnOf, allUp}
+use Rattle.reads.proofs.Example.{example-runs}
 use Rattle.guarantees.specs.Acknowledged.{Legal, after, acknowledged}
 use Rattle.bites.specs.Setting.{M}
 use Rattle.bites.specs.Witnesses.{W3, W4, movedRecord, W5, W12, stayedReceipt, movedReceipt, downBetween, ackTakenDown, ackTakenThenUp, ackLostThenUp, Closes, Accepts, AcceptsEffect, Witnesses}
@@ -85,4 +86,5 @@ witnesses =
       fromDown = accepts downBetween (TakeAck 0 0 0) 0 0 0 refl;
       afterStay = accepts-effect stayedReceipt (TakeAck 1 1 0) 1 1 0 refl refl;
       afterMove = accepts-effect movedReceipt (TakeAck 1 1 0) 1 1 0 refl refl;
+      book = example-runs .refusal;
     }

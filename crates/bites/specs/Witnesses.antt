@@ -8,8 +8,9 @@ use Rattle.machine.specs.Slots.{number, isUp, view}
 use Rattle.machine.specs.Closed.{closedOf}
 use Rattle.rules.specs.declared.Step.{Step}
 use Rattle.rules.specs.declared.Step.the-variants.{Send, Receive, SendRecord, Timeout, TakeRecord, TakeAck, Lose, Crash, Restart}
-use Rattle.runs.specs.Run.{freshOf}
+use Rattle.runs.specs.Run.{freshOf, runOf}
 use Rattle.runs.specs.Drain.{allUp}
+use Rattle.reads.specs.Run.{example}
 use Rattle.drains.specs.Drains.{stepsOf}
 use Rattle.guarantees.specs.Acknowledged.{Legal, after, accepted, acknowledged, AckedBy}
 use Rattle.bites.specs.Setting.{M, S, sends, moves, settles}
@@ -101,3 +102,5 @@ pub record Witnesses : Type 0 where
   -- 1, 3
   pub afterStay : AcceptsEffect stayedReceipt (TakeAck 1 1 0) 1 1 0
   pub afterMove : AcceptsEffect movedReceipt (TakeAck 1 1 0) 1 1 0
+  -- 8: document 01's example book, with room for its answers, is not refused
+  pub book : runOf example 4 .answer ≡ 0
