@@ -20,7 +20,7 @@ use Rattle.rules.specs.Rule.{head}
 use Rattle.rules.specs.PreCheck.{checkedLink}
 use Rattle.rules.specs.declared.Step.{Step}
 use Rattle.machine.proofs.Laws.Every.{table-at}
-use Rattle.guarantees.proofs.Conditions.{actors8}
+use Rattle.guarantees.proofs.Heads.{actors8}
 use Rattle.guarantees.proofs.Turns.{Turn, stays, received, checked, sends, moved, acked, settled}
 
 -- y stands in a list; x stands before y

@@ -15,7 +15,7 @@ use Rattle.machine.specs.declared.Machine.{Machine}
 use Rattle.rules.specs.Send.{sent}
 use Rattle.guarantees.proofs.Local.{Job, Cell, Good, none}
 use Rattle.guarantees.proofs.Whole.{Everywhere}
-use Rattle.guarantees.proofs.Conditions.{stores8, and-true, view-made}
+use Rattle.guarantees.proofs.Heads.{stores8, and-true, view-made}
 
 clash : (b : Bool) → b ≡ true → b ≡ false → ⊥
 clash b e f = let z : _≡_ {A = ℕ} 0 1 = cc in omega arith

@@ -25,7 +25,7 @@ use Rattle.guarantees.proofs.Whole.{Everywhere, Here}
 use Rattle.guarantees.proofs.Turns.{Turn}
 use Rattle.guarantees.proofs.Causes.{Cause, turn-actor, turn-word, turn-causes, turn-links}
 use Rattle.guarantees.proofs.Rules.{Homes}
-use Rattle.guarantees.proofs.Conditions.{view-made, stores8}
+use Rattle.guarantees.proofs.Heads.{view-made, stores8}
 use Rattle.guarantees.proofs.Reached.{Reached, Causes}
 use Rattle.guarantees.proofs.Steps.{Move, turns-to, unmade, step-reached, moves}
 use Rattle.guarantees.proofs.Acks.{Ack, past, now, yet, ack, accepting, run-reached, stays-past, comes-to}

@@ -21,7 +21,7 @@ use Rattle.drains.specs.Drains.{Ends, stepsOf}
 use Rattle.drains.proofs.Courses.{drain-ends}
 use Rattle.guarantees.specs.Acknowledged.{Legal, after}
 use Rattle.guarantees.specs.Guarantees.{TheDrain, BookRun, Books, EveryCall}
-use Rattle.guarantees.proofs.Conditions.{pick-zero}
+use Rattle.guarantees.proofs.Heads.{pick-zero}
 use Rattle.guarantees.proofs.Demand.{reached, ran-append}
 
 pub ends : (u : Setup) → Legal u → (steps : List Step) → allUp (after u steps) ≡ true → Ends (after u steps)

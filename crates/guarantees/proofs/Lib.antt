@@ -1,7 +1,7 @@
 pub mod Local
 pub mod Whole
 pub mod Touches
-pub mod Conditions
+pub mod Heads
 pub mod Rules
 pub mod Turns
 pub mod Queues

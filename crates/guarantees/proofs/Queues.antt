@@ -36,7 +36,9 @@ use Rattle.rules.specs.Restart.{restarted}
 use Rattle.rules.specs.Step.{numberOf, afterOf}
 use Rattle.rules.specs.declared.Step.{Step}
 use Rattle.rules.specs.declared.Step.the-variants.{Send, Receive, PreCheck, SendRecord, Timeout, TakeRecord, TakeAck, PostCheck, TakeRepair, SendUpdate, TakeUpdate, TakeUack, Expire, Lose, Crash, Restart}
-use Rattle.guarantees.proofs.Conditions.{Headed, post-check-taken, receive-taken, send-taken}
+use Rattle.keeps.specs.Taken.{ReceiveTaken}
+use Rattle.keeps.proofs.Conditions.{taken-when}
+use Rattle.guarantees.proofs.Heads.{Headed, headed}
 
 pub data Line (m n : Machine) (a : ℕ) : Type 0 where
   same : standing (queue n a) ≡ standing (queue m a) → Line m n a
@@ -62,24 +64,24 @@ module _ (m : Machine) (u : Unbroken m) (b : Bounds m) (a : ℕ) (ha : a < 8) wh
     where
       go : Dec (a ≡ from) → Line m (sent m from to own word causes) a
       go (yes x) =
-          let t = send-taken m from to own causes e in
+          let t = taken-when m (Send from to own word causes) e in
           let g : standing (getD (set (m .queues) from (joined (queue m from) (number (m .made) 0))) from noQueue) ≡ standing (joined (queue m from) (number (m .made) 0)) = ap standing (getD-set-same (m .queues) from (joined (queue m from) (number (m .made) 0)) noQueue (omega (arith, u .sized .queues))) in
           longer (number (m .made) 0) (rw x (g ∙ joined-stands (queue m from) (number (m .made) 0) (u .queueLong from (omega arith)) (b .sendRoom from (omega arith) (t .room))))
       go (no x) = same (ap standing (getD-set-other (m .queues) from a (joined (queue m from) (number (m .made) 0)) noQueue x))
-  lines (Receive k) e = go (ℕ-discrete a (view m (number k 1) .actor)) (receive-taken m k e)
+  lines (Receive k) e = go (ℕ-discrete a (view m (number k 1) .actor)) (taken-when m (Receive k) e)
     where
-      go : Dec (a ≡ view m (number k 1) .actor) → (k < m .made) × (view m (number k 1) .phase ≡ 0) → Line m (receivedOf m k) a
+      go : Dec (a ≡ view m (number k 1) .actor) → ReceiveTaken m k → Line m (receivedOf m k) a
       go (yes x) t =
           let i = view m (number k 1) .actor in
           let g : standing (getD (set (m .queues) i (joined (queue m i) (number k 1))) i noQueue) ≡ standing (joined (queue m i) (number k 1)) = ap standing (getD-set-same (m .queues) i (joined (queue m i) (number k 1)) noQueue (omega (arith, u .sized .queues))) in
-          longer (number k 1) (rw x (g ∙ joined-stands (queue m i) (number k 1) (u .queueLong i (omega arith)) (b .receiveRoom k (t .0) (t .1))))
+          longer (number k 1) (rw x (g ∙ joined-stands (queue m i) (number k 1) (u .queueLong i (omega arith)) (b .receiveRoom k (t .keyIn) (t .unreceived))))
       go (no x) t = same (ap standing (getD-set-other (m .queues) (view m (number k 1) .actor) a (joined (queue m (view m (number k 1) .actor)) (number k 1)) noQueue x))
   lines (PreCheck i) e = same refl
   lines (SendRecord i) e = same refl
   lines (Timeout i p) e = same refl
   lines (TakeRecord p k r) e = same refl
   lines (TakeAck p k r) e = same refl
-  lines (PostCheck i) e = go (ℕ-discrete a i) (post-check-taken m u i e)
+  lines (PostCheck i) e = go (ℕ-discrete a i) (headed m u i 4 (taken-when m (PostCheck i) e))
     where
       go : Dec (a ≡ i) → Headed m i 4 → Line m (postChecked m i) a
       go (yes x) g =

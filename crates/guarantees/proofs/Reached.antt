@@ -2,13 +2,12 @@
 -- Kept by every step, and true of a fresh machine. Assumes nothing.
 use mathlib.Core.Path.{_≡_, refl, sym, ap, _∙_, subst}
 use mathlib.Core.Logic.{_≢_}
-use mathlib.Core.Bool.{Bool, true, false, _&&_, not}
+use mathlib.Core.Bool.{Bool, true, false, not}
 use mathlib.Core.List.{List, [], _∷_, _++_}
 use Prim.Native.Nat.{ℕ, _-_, _≤_, _<_}
 use native.Mathlib.Omega.{arith}
 use native.Mathlib.Decide.{decLt}
-use borrow.Author.Tests.{eqb-true, eqb-false, ltb-true, not-true}
-use lib.Dec.{eqb, ltb}
+use lib.Dec.{eqb}
 use lib.ListN.{getD, set, length-set}
 use lib.Seq.{getD-set-same, getD-set-other}
 use Rattle.machine.specs.Words.{pick, bit, one, times}
@@ -19,9 +18,9 @@ use Rattle.machine.specs.Unbroken.{Unbroken}
 use Rattle.machine.specs.declared.Machine.{Machine}
 use Rattle.machine.specs.declared.View.{View}
 use Rattle.machine.proofs.Laws.{unbroken, bounds}
-use Rattle.machine.proofs.Laws.Every.{table-at, below-at}
+use Rattle.machine.proofs.Laws.Every.{table-at}
 use Rattle.rules.specs.Rule.{head}
-use Rattle.rules.specs.Send.{sendNo, sent, sentView, awaitedView, joined, homeLink, causesKnown, causeKnown, received}
+use Rattle.rules.specs.Send.{sendNo, sent, sentView, awaitedView, joined, homeLink, received}
 use Rattle.rules.specs.Receive.{receivedOf}
 use Rattle.rules.specs.PreCheck.{preChecked}
 use Rattle.rules.specs.SendRecord.{recordSent}
@@ -40,8 +39,9 @@ use Rattle.rules.specs.Restart.{restarted}
 use Rattle.rules.specs.Step.{numberOf, afterOf}
 use Rattle.rules.specs.declared.Step.{Step}
 use Rattle.rules.specs.declared.Step.the-variants.{Send, Receive, PreCheck, SendRecord, Timeout, TakeRecord, TakeAck, PostCheck, TakeRepair, SendUpdate, TakeUpdate, TakeUack, Expire, Lose, Crash, Restart}
+use Rattle.keeps.proofs.Conditions.{taken-when}
 use Rattle.guarantees.proofs.Whole.{Everywhere}
-use Rattle.guarantees.proofs.Conditions.{and-true, actors8, send-taken}
+use Rattle.guarantees.proofs.Heads.{actors8}
 use Rattle.guarantees.proofs.Rules.{Homes, here, sends, receives, pre-checks, sends-record, times-out, takes-record, takes-ack, post-checks, takes-repair, sends-update, takes-update, takes-uack, expires, loses, goes-up-or-down}
 use Rattle.guarantees.proofs.Turns.{turns}
 use Rattle.guarantees.proofs.Queues.{Line, same, longer, shorter, lines, joined-stands}
@@ -167,7 +167,7 @@ module _ (m : Machine) (c : Reached m) where
           homes-at : (i : ℕ) → i < m .made → view m (number i 0) .viewlink ≡ home m (view m (number i 1) .actor)
           homes-at = c .homes
       go (new from to own word causes x y) =
-          let t = send-taken m from to own causes (rw x at e) in
+          let t = taken-when m (Send from to own word causes) (rw x at e) in
           subst (λ (z : Step). view (afterOf m z) (number k 0) .viewlink ≡ home (afterOf m z) (view (afterOf m z) (number k 1) .actor)) (sym x)
           (rw y (ap (λ (w : View). w .viewlink) (new-sender from to own word causes (t .room)) ∙ sym (home-same (Send from to own word causes) _ ∙ ap (λ (w : View). home m (w .actor)) (new-receiver from to own word causes (t .room)))))
 
@@ -187,16 +187,6 @@ module _ (m : Machine) (c : Reached m) where
   still-ahead n x y a (longer v e) h f = subst (Ahead x y) (sym e) (ahead-longer x y v (standing (queue m a)) h)
   still-ahead n x y a (shorter e g) h f =
       ahead-shorter x y (head m a) (standing (queue n a)) (λ d. f (ap (λ (z : ℕ). view n z .phase) d ∙ g)) (subst (Ahead x y) e h)
-
-  knows : (from causes j : ℕ) → causesKnown m from causes ≡ true → j < 16 → bit causes j ≡ true → (j < m .made) × (1 ≤ view m (number j 1) .phase) × (view m (number j 1) .actor ≡ from)
-  unfolding causesKnown
-  knows from causes j k hj b =
-      let a : causeKnown m from causes j ≡ true = below-at 16 (causeKnown m from causes) k j hj in
-      let r : received m from j ≡ true = rw b at a in
-      let x = and-true (ltb j (m .made) && not (eqb (view m (number j 1) .phase) 0)) (eqb (view m (number j 1) .actor) from) r in
-      let y = and-true (ltb j (m .made)) (not (eqb (view m (number j 1) .phase) 0)) (x .0) in
-      let z = eqb-false (view m (number j 1) .phase) 0 (not-true (eqb (view m (number j 1) .phase) 0) (y .1)) in
-      (ltb-true j (m .made) (y .0), omega arith, eqb-true (view m (number j 1) .actor) from (x .1))
 
   other-view : (from to own word causes j : ℕ) → j < m .made → view (sent m from to own word causes) (number j 1) ≡ view m (number j 1)
   unfolding sent
@@ -223,17 +213,17 @@ module _ (m : Machine) (c : Reached m) where
       → Cause (home (sent m from to own word causes) (view (sent m from to own word causes) (number k 0) .actor)) (standing (queue (sent m from to own word causes) (view (sent m from to own word causes) (number k 0) .actor))) (number j 1) (number k 0) j
       (view (sent m from to own word causes) (number k 0)) (view (sent m from to own word causes) (number j 1))
   new-cause from to own word causes e k y j hj b =
-      let t = send-taken m from to own causes e in
+      let t = taken-when m (Send from to own word causes) e in
       let w = new-sender from to own word causes (t .room) in
       let g : bit causes j ≡ true = rw (y, w) at b in
-      let r = knows from causes j (t .known) hj g in
-      let o = other-view from to own word causes j (r .0) in
-      let q = new-queue from to own word causes (t .from) (t .room) in
+      let r = t .known j hj g in
+      let o = other-view from to own word causes j (r .keyIn) in
+      let q = new-queue from to own word causes (t .fromIn) (t .room) in
       rw (y, w, o, home-same (Send from to own word causes) from, q)
       (record {
-        actor = r .2;
-        made = r .1;
-        early = λ h n. ahead-last (number j 1) (number (m .made) 0) (standing (queue m from)) (times-in (number j 1) (standing (queue m from)) (queued from j (r .0) (r .1) n (r .2)));
+        actor = r .byActor;
+        made = r .received;
+        early = λ h n. ahead-last (number j 1) (number (m .made) 0) (standing (queue m from)) (times-in (number j 1) (standing (queue m from)) (queued from j (r .keyIn) (r .received) n (r .byActor)));
         fresh = λ h. table-at (homeLink causes (home m from)) 16 0 j hj ∙ rw g;
         late = λ h. absurd (let z : ⊥ = omega arith in z);
         right = λ h. absurd (let z : ⊥ = omega arith in z);

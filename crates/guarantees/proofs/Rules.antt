@@ -5,7 +5,7 @@ use mathlib.Core.Bool.{Bool, true, false, _&&_}
 use mathlib.Core.List.{List}
 use Prim.Native.Nat.{ℕ, suc, _+_, _-_, _*_, _≤_, _<_}
 use native.Mathlib.Omega.{arith}
-use borrow.Author.Tests.{not-false, eqb-true, eqb-false}
+use borrow.Author.Tests.{not-true, not-false, eqb-true, eqb-false}
 use lib.Dec.{eqb}
 use lib.ListN.{length, set, length-set}
 use lib.Seq.{getD-set-same, getD-set-other, set-getD}
@@ -37,11 +37,13 @@ use Rattle.rules.specs.TakeUpdate.{takeUpdateNo, updateTaken}
 use Rattle.rules.specs.TakeUack.{takeUackNo, uackTaken, finishedEntry}
 use Rattle.rules.specs.Expire.{expireNo, expired}
 use Rattle.rules.specs.Lose.{loseNo, lost}
+use Rattle.rules.specs.declared.Step.the-variants.{Send, Receive, PreCheck, SendRecord, Timeout, TakeRecord, TakeAck, PostCheck, TakeRepair, SendUpdate, TakeUpdate, TakeUack, Expire, Lose}
+use Rattle.keeps.proofs.Conditions.{taken-when}
 use Rattle.guarantees.proofs.Local
 use Rattle.guarantees.proofs.Local.{Job, Good}
 use Rattle.guarantees.proofs.Whole.{job, jobOf, cell, Here, Everywhere, touched}
 use Rattle.guarantees.proofs.Touches.{withPlace, at-store, at-stores, update-touch, view-touch, repair-touch, entries-touch, entry-touch, place-touch}
-use Rattle.guarantees.proofs.Conditions.{stores8, send-taken, receive-taken, not-flip, Headed, keyOf, roleOf, and-true, pre-check-taken, send-record-taken, post-check-taken, timeout-taken, take-record-taken, take-ack-taken, take-update-taken, take-uack-taken, take-repair-taken, send-update-taken, expire-taken, lose-taken}
+use Rattle.guarantees.proofs.Heads.{stores8, Headed, keyOf, roleOf, and-true, headed}
 
 written-held : (c : Contents) (w : View) → one (writtenContents c w .held) ≡ 1
 written-held c w = go (c .held) refl
@@ -172,7 +174,7 @@ module _ (m : Machine) (u : Unbroken m) (inv : Everywhere m) where
       at-head m z fits inv (λ x. Everywhere (withView m x (checkedView m (view m x)))) 1
       (λ k r hk hr h. by-view m z fits inv k r hk hr (checkedView m (view m (number k r)))
       (λ p hp x y. Local.phased-me x y 2 (omega arith) (omega arith) (omega arith) (omega arith)) (λ p hp x y. Local.phased-ot x y 2 (omega arith) (omega arith)))
-      a (pre-check-taken m u a e)
+      a (headed m u a 1 (taken-when m (PreCheck a) e))
 
   pub sends-record : (a : ℕ) → sendRecordNo m a ≡ 0 → Everywhere (recordSent m a)
   unfolding recordSent
@@ -181,14 +183,14 @@ module _ (m : Machine) (u : Unbroken m) (inv : Everywhere m) where
       (at-head m z fits inv (λ x. Everywhere (withView m x (phased 3 (view m x)))) 2
       (λ k r hk hr h. by-view m z fits inv k r hk hr (phased 3 (view m (number k r)))
       (λ p hp x y. Local.phased-me x y 3 (omega arith) (omega arith) (omega arith) (omega arith)) (λ p hp x y. Local.phased-ot x y 3 (omega arith) (omega arith)))
-      a (send-record-taken m u a e))
+      a (headed m u a 2 (taken-when m (SendRecord a) e)))
 
   pub times-out : (a p : ℕ) → timeoutNo m a p ≡ 0 → Everywhere (timedOut m a p)
   unfolding timedOut
   times-out a p e =
       at-head m z fits inv (λ x. Everywhere (withView m x (movedView p (view m x)))) 3
       (λ k r hk hr h. by-view m z fits inv k r hk hr (movedView p (view m (number k r))) (λ q hq x y. Local.moved-me x y h p) (λ q hq x y. Local.moved-ot x y h p))
-      a (timeout-taken m u a p e .0)
+      a (headed m u a 3 (taken-when m (Timeout a p) e .head))
 
   -- 8
   settles : (k r : ℕ) → k < m .made → r < 2 → view m (number k r) .phase ≡ 4
@@ -216,17 +218,17 @@ module _ (m : Machine) (u : Unbroken m) (inv : Everywhere m) where
   unfolding postChecked
   post-checks a e =
       same-slots _ (m .records) (m .links) _
-      (at-head m z fits inv (λ x. Everywhere (withRepair (withView m x (phased 5 (view m x))) x (askedRepair (repair m x) (view m x)))) 4 settles a (post-check-taken m u a e))
+      (at-head m z fits inv (λ x. Everywhere (withRepair (withView m x (phased 5 (view m x))) x (askedRepair (repair m x) (view m x)))) 4 settles a (headed m u a 4 (taken-when m (PostCheck a) e)))
 
   -- 7: the ack is accepted, or only goes
   pub takes-ack : (p k r : ℕ) → takeAckNo m p k r ≡ 0 → Everywhere (ackTaken m p k r)
   unfolding ackTaken
   takes-ack p k r e =
-      let t = take-ack-taken m p k r e in
-      let hp : p < 8 = omega (arith, stores8 m u, t .0 .store) in
-      let hk = t .0 .key in
-      let hr = t .0 .role in
-      with-acks (withView m (number k r) (ackedView m p (number k r))) (sized-view m (number k r) (ackedView m p (number k r)) z) fits (go (accepts m p (number k r)) refl hp hk hr (t .1)) k r p hk hr hp _ (λ h. omega (arith, t .1))
+      let t = taken-when m (TakeAck p k r) e in
+      let hp : p < 8 = omega (arith, stores8 m u, t .place .storeIn) in
+      let hk = t .place .keyIn in
+      let hr = t .place .roleIn in
+      with-acks (withView m (number k r) (ackedView m p (number k r))) (sized-view m (number k r) (ackedView m p (number k r)) z) fits (go (accepts m p (number k r)) refl hp hk hr (t .copy)) k r p hk hr hp _ (λ h. omega (arith, t .copy))
     where
       with : View → Type 0
       with w = Everywhere (withView m (number k r) w)
@@ -248,16 +250,16 @@ module _ (m : Machine) (u : Unbroken m) (inv : Everywhere m) where
   pub takes-record : (p k r : ℕ) → takeRecordNo m p k r ≡ 0 → Everywhere (recordTaken m p k r)
   unfolding recordTaken
   takes-record p k r e =
-      let t = take-record-taken m p k r e in
-      let hp : p < 8 = omega (arith, stores8 m u, t .0 .store) in
-      let hv : number k r < 32 = omega (arith, fits, t .0 .key, t .0 .role) in
-      let g = u .recordReady p (number k r) hp hv (t .1) in
+      let t = taken-when m (TakeRecord p k r) e in
+      let hp : p < 8 = omega (arith, stores8 m u, t .place .storeIn) in
+      let hv : number k r < 32 = omega (arith, fits, t .place .keyIn, t .place .roleIn) in
+      let g = u .recordReady p (number k r) hp hv (t .copy) in
       let c = writtenContents (contents m p (number k r)) (view m (number k r)) in
       let f : one (c .held) ≡ 1 = written-held (contents m p (number k r)) (view m (number k r)) in
       let n = more (ackCopies m p (number k r)) in
       let l = writtenViewlink (viewlink m p (number k r)) (view m (number k r)) in
       same-slots _ _ _ (m .queues)
-      (simp set-getD at (by-place m z fits inv k r (t .0 .key) (t .0 .role) p hp c l n (updateCopies m p (number k r)) (uackCopies m p (number k r))
+      (simp set-getD at (by-place m z fits inv k r (t .place .keyIn) (t .place .roleIn) p hp c l n (updateCopies m p (number k r)) (uackCopies m p (number k r))
       (λ a b. rw f (Local.recorded-me a b g n)) (λ a b. rw f (Local.recorded-ot a b g n))))
 
   -- 10, 13: an entry's status
@@ -270,28 +272,28 @@ module _ (m : Machine) (u : Unbroken m) (inv : Everywhere m) where
   pub sends-update : (k r : ℕ) → sendUpdateNo m k r ≡ 0 → Everywhere (updateSent m k r)
   unfolding updateSent
   sends-update k r e =
-      let t = send-update-taken m k r e in
-      let hv : number k r < 32 = omega (arith, fits, t .0, t .1) in
-      let h : 0 < statusNumber (entry m (number k r) .status) = omega (arith, t .2) in
+      let t = taken-when m (SendUpdate k r) e in
+      let hv : number k r < 32 = omega (arith, fits, t .view .keyIn, t .view .roleIn) in
+      let h : 0 < statusNumber (entry m (number k r) .status) = omega (arith, ap statusNumber (t .due)) in
       let w = inStatus Waiting (entry m (number k r)) in
       let p = entry m (number k r) .destination in
       let hp : p < 8 = omega (arith, stores8 m u, u .entryDestinationIn (number k r) hv h) in
-      with-updates (withEntry m (number k r) w) (sized-entry m (number k r) w z) fits (with-status k r 2 w (t .0) (t .1) h refl (omega arith) (omega arith) refl refl) k r p (t .0) (t .1) hp _
+      with-updates (withEntry m (number k r) w) (sized-entry m (number k r) w z) fits (with-status k r 2 w (t .view .keyIn) (t .view .roleIn) h refl (omega arith) (omega arith) refl refl) k r p (t .view .keyIn) (t .view .roleIn) hp _
       (λ x. rw (getD-set-same (m .entries) (number k r) w noEntry (omega (arith, z .entries))) (omega arith))
 
   pub expires : (k r : ℕ) → expireNo m k r ≡ 0 → Everywhere (expired m k r)
   unfolding expired
   expires k r e =
-      let t = expire-taken m k r e in
-      with-status k r 1 (inStatus ToSend (entry m (number k r))) (t .0) (t .1) (omega (arith, t .2)) refl (omega arith) (omega arith) refl refl
+      let t = taken-when m (Expire k r) e in
+      with-status k r 1 (inStatus ToSend (entry m (number k r))) (t .view .keyIn) (t .view .roleIn) (omega (arith, ap statusNumber (t .waits))) refl (omega arith) (omega arith) refl refl
 
   -- 14
   pub loses : (what p k r : ℕ) → loseNo m what p k r ≡ 0 → Everywhere (lost m what p k r)
   unfolding lost
   loses what p k r e =
-      let t = lose-taken m what p k r e in
-      let hp : p < 8 = omega (arith, stores8 m u, t .0 .store) in
-      go (eqb what 0) (eqb what 1) (eqb what 2) hp (t .0 .key) (t .0 .role)
+      let t = taken-when m (Lose what p k r) e in
+      let hp : p < 8 = omega (arith, stores8 m u, t .place .storeIn) in
+      go (eqb what 0) (eqb what 1) (eqb what 2) hp (t .place .keyIn) (t .place .roleIn)
     where
       go : (a b c : Bool) → p < 8 → k < m .made → r < 2
           → Everywhere (pick a (withRecordCopies m p (number k r) (pick a (recordCopies m p (number k r)) (pick b (ackCopies m p (number k r)) (pick c (updateCopies m p (number k r)) (uackCopies m p (number k r)))) - 1))
@@ -313,12 +315,12 @@ module _ (m : Machine) (u : Unbroken m) (inv : Everywhere m) where
   pub takes-uack : (p k r : ℕ) → takeUackNo m p k r ≡ 0 → Everywhere (uackTaken m p k r)
   unfolding uackTaken
   takes-uack p k r e =
-      let t = take-uack-taken m p k r e in
-      let hp : p < 8 = omega (arith, stores8 m u, t .0 .store) in
-      let hk = t .0 .key in
-      let hr = t .0 .role in
+      let t = taken-when m (TakeUack p k r) e in
+      let hp : p < 8 = omega (arith, stores8 m u, t .place .storeIn) in
+      let hk = t .place .keyIn in
+      let hr = t .place .roleIn in
       with-uacks (withEntry m (number k r) (finishedEntry p (entry m (number k r)))) (sized-entry m (number k r) (finishedEntry p (entry m (number k r))) z) fits
-      (go (eqb (statusNumber (entry m (number k r) .status)) 2 && eqb (entry m (number k r) .destination) p) refl hp hk hr (t .1)) k r p hk hr hp _ (λ h. omega (arith, t .1))
+      (go (eqb (statusNumber (entry m (number k r) .status)) 2 && eqb (entry m (number k r) .destination) p) refl hp hk hr (t .copy)) k r p hk hr hp _ (λ h. omega (arith, t .copy))
     where
       with : Entry → Type 0
       with x = Everywhere (withEntry m (number k r) x)
@@ -342,16 +344,16 @@ module _ (m : Machine) (u : Unbroken m) (inv : Everywhere m) where
   pub takes-update : (p k r : ℕ) → takeUpdateNo m p k r ≡ 0 → Everywhere (updateTaken m p k r)
   unfolding updateTaken
   takes-update p k r e =
-      let t = take-update-taken m p k r e in
-      let hp : p < 8 = omega (arith, stores8 m u, t .0 .store) in
-      let hk = t .0 .key in
-      let hr = t .0 .role in
+      let t = taken-when m (TakeUpdate p k r) e in
+      let hp : p < 8 = omega (arith, stores8 m u, t .place .storeIn) in
+      let hk = t .place .keyIn in
+      let hr = t .place .roleIn in
       let l = entry m (number k r) .own + 1 in
       let n = updateCopies m p (number k r) - 1 in
       let y = more (uackCopies m p (number k r)) in
       let a = here m z fits inv k r p hk hr hp in
       let b = there m z fits inv k r p hk hr hp in
-      let s = a .updateEntry (t .1) in
+      let s = a .updateEntry (t .copy) in
       touched m (updateTaken m p k r) k r _ _ _ _ hr (update-touch m z k r (omega (arith, fits)) hr p hp l n y) (λ j h x. h) fits inv
       (at-stores (λ q x x′. Good (job m (number k r)) x (job m (number k (1 - r))) x′ (message m k .own) q) p _ _ (λ q. cell m q (number k r)) (λ q. cell m q (number k (1 - r))) (Local.updated-me a b s n y) (λ q hq. here m z fits inv k r q hk hr hq))
       (at-stores (λ q x x′. Good (job m (number k (1 - r))) x′ (job m (number k r)) x (message m k .own) q) p _ _ (λ q. cell m q (number k r)) (λ q. cell m q (number k (1 - r))) (Local.updated-ot a b s n y) (λ q hq. there m z fits inv k r q hk hr hq))
@@ -360,8 +362,8 @@ module _ (m : Machine) (u : Unbroken m) (inv : Everywhere m) where
   pub takes-repair : (k r : ℕ) → takeRepairNo m k r ≡ 0 → Everywhere (repairTaken m k r)
   unfolding repairTaken
   takes-repair k r e =
-      let t = take-repair-taken m k r e in
-      go (entered (entry m (number k (1 - r)))) refl (t .0) (t .1) (rw (t .2) (omega arith))
+      let t = taken-when m (TakeRepair k r) e in
+      go (entered (entry m (number k (1 - r)))) refl (t .view .keyIn) (t .view .roleIn) (rw (t .flying) (omega arith))
     where
       v : ℕ
       v = number k r
@@ -374,7 +376,7 @@ module _ (m : Machine) (u : Unbroken m) (inv : Everywhere m) where
 
       go : (b : Bool) → entered (entry m (number k (1 - r))) ≡ b → k < m .made → r < 2 → 0 < one (repair m (number k r) .flying) → with (entered (entry m (number k (1 - r))))
       go true c hk hr f =
-          let g = eqb-false (statusNumber (entry m (number k (1 - r)) .status)) 0 (not-flip _ c) in
+          let g = eqb-false (statusNumber (entry m (number k (1 - r)) .status)) 0 (not-true _ c) in
           let h : 0 < statusNumber (entry m (number k (1 - r)) .status) = omega arith in
           subst with (sym c)
           (by-entries m z fits inv k r hk hr (toSend (entry m (number k (1 - r)) .own) (repair m (number k r) .own)) (toSend (repair m (number k r) .own) (entry m (number k (1 - r)) .own)) noRepair
@@ -391,8 +393,8 @@ module _ (m : Machine) (u : Unbroken m) (inv : Everywhere m) where
   pub receives : Homes m → (k : ℕ) → receiveNo m k ≡ 0 → Everywhere (receivedOf m k)
   unfolding receivedOf Homes
   receives homes k e =
-      let t = receive-taken m k e in
-      let hk = t .0 in
+      let t = taken-when m (Receive k) e in
+      let hk = t .keyIn in
       let w = receivedView m k in
       let n = receivedOf m k in
       let g : message m k .own ≡ message m k .own = refl in
@@ -407,8 +409,8 @@ module _ (m : Machine) (u : Unbroken m) (inv : Everywhere m) where
         farSent = λ j f. rw (getD-set-other (m .messages) k j noMessage noMessage f);
       })
       (λ j h x. h) fits inv
-      (λ p hp. Local.received-me (here m z fits inv k 1 p hk (omega arith) hp) (there m z fits inv k 1 p hk (omega arith) hp) (t .1) (home m (view m (number k 1) .actor)) _ (sym (homes k hk)) (u .senderMade k hk))
-      (λ p hp. Local.received-ot (here m z fits inv k 1 p hk (omega arith) hp) (there m z fits inv k 1 p hk (omega arith) hp) (t .1) (home m (view m (number k 1) .actor)) _ (sym (homes k hk)) (u .senderMade k hk))
+      (λ p hp. Local.received-me (here m z fits inv k 1 p hk (omega arith) hp) (there m z fits inv k 1 p hk (omega arith) hp) (t .unreceived) (home m (view m (number k 1) .actor)) _ (sym (homes k hk)) (u .senderMade k hk))
+      (λ p hp. Local.received-ot (here m z fits inv k 1 p hk (omega arith) hp) (there m z fits inv k 1 p hk (omega arith) hp) (t .unreceived) (home m (view m (number k 1) .actor)) _ (sym (homes k hk)) (u .senderMade k hk))
 
   -- 1: at a view that isn't made there is nothing
   module _ (v : ℕ) (h : v < 32) (far : m .made * 2 ≤ v) where
@@ -436,7 +438,7 @@ module _ (m : Machine) (u : Unbroken m) (inv : Everywhere m) where
   pub sends : (from to own word causes : ℕ) → sendNo m from to own causes ≡ 0 → Everywhere (sent m from to own word causes)
   unfolding sent
   sends from to own word causes e =
-      let t = send-taken m from to own causes e in
+      let t = taken-when m (Send from to own word causes) e in
       let room = t .room in
       let k = m .made in
       let a = number k 0 in

@@ -15,10 +15,11 @@ use Rattle.machine.specs.Unbroken.{Unbroken}
 use Rattle.machine.specs.declared.Machine.{Machine}
 use Rattle.machine.specs.declared.View.{View}
 use Rattle.machine.proofs.Laws.{unbroken}
+use Rattle.rules.specs.declared.Step.the-variants.{Send}
+use Rattle.keeps.proofs.Conditions.{taken-when}
 use Rattle.keeps.proofs.Keeps.{keeps}
 use Rattle.rules.specs.Step.{numberOf, afterOf, ruleOf, stepOf}
 use Rattle.rules.specs.declared.Step.{Step}
-use Rattle.guarantees.proofs.Conditions.{send-taken}
 use Rattle.guarantees.proofs.Turns.{Turn, stays, turns}
 use Rattle.guarantees.proofs.Reached.{Reached, everywhere-kept, homes-kept, causes-kept, Key, old, new, key, new-sender, new-receiver}
 
@@ -61,7 +62,7 @@ made-view m c s e v h = go (decLt v (afterOf m s .made * 2))
     fresh (new from to own word causes x y) = role (ℕ-discrete (v % 2) 0)
       where
         t : m .made < 16
-        t = send-taken m from to own causes (rw x at e) .room
+        t = taken-when m (Send from to own word causes) (rw x at e) .room
 
         role : Dec (v % 2 ≡ 0) → view (afterOf m s) v .phase ≤ 1
         role (yes z) =

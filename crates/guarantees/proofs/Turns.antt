@@ -35,7 +35,8 @@ use Rattle.rules.specs.Restart.{restarted}
 use Rattle.rules.specs.Step.{numberOf, afterOf}
 use Rattle.rules.specs.declared.Step.{Step}
 use Rattle.rules.specs.declared.Step.the-variants.{Send, Receive, PreCheck, SendRecord, Timeout, TakeRecord, TakeAck, PostCheck, TakeRepair, SendUpdate, TakeUpdate, TakeUack, Expire, Lose, Crash, Restart}
-use Rattle.guarantees.proofs.Conditions.{Headed, and-true, pre-check-taken, send-record-taken, post-check-taken, timeout-taken, take-ack-taken, receive-taken, send-taken}
+use Rattle.keeps.proofs.Conditions.{taken-when}
+use Rattle.guarantees.proofs.Heads.{Headed, and-true, headed}
 
 pub data Turn (m : Machine) (s : Step) (v : ℕ) : View → Type 0 where
   stays : Turn m s v (view m v)
@@ -67,7 +68,7 @@ module _ (m : Machine) (u : Unbroken m) (v : ℕ) (h : v < m .made * 2) where
   pub turns : (s : Step) → numberOf m s ≡ 0 → Turn m s v (view (afterOf m s) v)
   unfolding sent receivedOf preChecked recordSent timedOut recordTaken ackTaken postChecked repairTaken updateSent updateTaken uackTaken expired lost crashed restarted
   turns (Send from to own word causes) e =
-      let t = send-taken m from to own causes e in
+      let t = taken-when m (Send from to own word causes) e in
       let room = t .room in
       let z = u .sized .views in
       rw (
@@ -75,21 +76,21 @@ module _ (m : Machine) (u : Unbroken m) (v : ℕ) (h : v < m .made * 2) where
         getD-set-other (m .views) (number (m .made) 0) v (sentView m from to own word causes) noView (λ x. let y : ⊥ = omega arith in y),
       ) stays
   turns (Receive k) e =
-      let t = receive-taken m k e in
-      one (Receive k) (number k 1) (receivedView m k) (omega (arith, u .made16, t .0)) (λ x. received k x (rw x (t .1)))
+      let t = taken-when m (Receive k) e in
+      one (Receive k) (number k 1) (receivedView m k) (omega (arith, u .made16, t .keyIn)) (λ x. received k x (rw x (t .unreceived)))
   turns (PreCheck a) e =
-      let g = pre-check-taken m u a e in
+      let g = headed m u a 1 (taken-when m (PreCheck a) e) in
       one (PreCheck a) (head m a) (checkedView m (headView m a)) (head32 a 1 g) (λ x. of-head (λ w. Turn m (PreCheck a) v (checkedView m w)) a 1 g x (λ y i. checked y i))
   turns (SendRecord a) e =
-      let g = send-record-taken m u a e in
+      let g = headed m u a 2 (taken-when m (SendRecord a) e) in
       one (SendRecord a) (head m a) (phased 3 (headView m a)) (head32 a 2 g) (λ x. of-head (λ w. Turn m (SendRecord a) v (phased 3 w)) a 2 g x (λ y i. sends y))
   turns (Timeout a p) e =
-      let g = timeout-taken m u a p e .0 in
+      let g = headed m u a 3 (taken-when m (Timeout a p) e .head) in
       one (Timeout a p) (head m a) (movedView p (headView m a)) (head32 a 3 g) (λ x. of-head (λ w. Turn m (Timeout a p) v (movedView p w)) a 3 g x (λ y i. moved p y))
   turns (TakeRecord p k r) e = stays
   turns (TakeAck p k r) e =
-      let t = take-ack-taken m p k r e in
-      one (TakeAck p k r) (number k r) (ackedView m p (number k r)) (omega (arith, u .made16, t .0 .key, t .0 .role)) (λ x. go x (accepts m p (number k r)) refl)
+      let t = taken-when m (TakeAck p k r) e in
+      one (TakeAck p k r) (number k r) (ackedView m p (number k r)) (omega (arith, u .made16, t .place .keyIn, t .place .roleIn)) (λ x. go x (accepts m p (number k r)) refl)
     where
       go : v ≡ number k r → (b : Bool) → accepts m p (number k r) ≡ b → Turn m (TakeAck p k r) v (pick (accepts m p (number k r)) (phased 4 (view m (number k r))) (view m (number k r)))
       go x true c =
@@ -100,7 +101,7 @@ module _ (m : Machine) (u : Unbroken m) (v : ℕ) (h : v < m .made * 2) where
           rw c (subst (λ (y : ℕ). Turn m (TakeAck p k r) v (phased 4 (view m y))) x (acked p k r refl x (rw x f) (rw x g)))
       go x false c = rw c (subst (λ (y : ℕ). Turn m (TakeAck p k r) v (view m y)) x stays)
   turns (PostCheck a) e =
-      let g = post-check-taken m u a e in
+      let g = headed m u a 4 (taken-when m (PostCheck a) e) in
       one (PostCheck a) (head m a) (phased 5 (headView m a)) (head32 a 4 g) (λ x. of-head (λ w. Turn m (PostCheck a) v (phased 5 w)) a 4 g x (λ y i. settled y i))
   turns (TakeRepair k r) e = stays
   turns (SendUpdate k r) e = stays

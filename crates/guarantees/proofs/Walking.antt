@@ -26,6 +26,7 @@ use Rattle.rules.specs.declared.Step.{Step}
 use Rattle.rules.specs.declared.Step.the-variants.{Send, Receive, PreCheck, SendRecord, Timeout, TakeRecord, TakeAck, PostCheck, TakeRepair, SendUpdate, TakeUpdate, TakeUack, Expire, Lose, Crash, Restart}
 use Rattle.runs.specs.Run.{ran, freshOf}
 use Rattle.keeps.specs.Laws.{madeBy}
+use Rattle.keeps.proofs.Conditions.{taken-when}
 use Rattle.keeps.proofs.Laws.{made-counts}
 use Rattle.guarantees.specs.Acknowledged.{Legal, after}
 use Rattle.guarantees.specs.Guarantees.{causesOf, sentCauses, SentCause, SentReach, Drains, TheWalk}
@@ -36,7 +37,7 @@ use Rattle.reaches.proofs.Laws.{answered-reaches}
 use Rattle.walk.specs.declared.Met.{Met}
 use Rattle.walk.specs.Walk.{added, spoiled, foundOf, causesHeld, receiptOf, hopOf, each, visitOf, unmet, walkedFrom, walkOf}
 use Rattle.guarantees.proofs.Whole.{Everywhere, Here}
-use Rattle.guarantees.proofs.Conditions.{stores8, absurd-eq, send-taken}
+use Rattle.guarantees.proofs.Heads.{stores8, absurd-eq}
 use Rattle.guarantees.proofs.Causes.{Cause, turn-causes}
 use Rattle.guarantees.proofs.Reached.{Reached, Causes, new-sender}
 use Rattle.guarantees.proofs.Steps.{Move, turns-to, unmade, moves, step-reached}
@@ -178,7 +179,7 @@ module _ (m : Machine) (c : Reached m) where
       let x = taken-step m (Send from to own word causes) (c .fine) e in
       let y = ap (λ (a : Answered). a .answer) x in
       sends causes (ap (λ (a : Answered). a .machine .made) x ∙ made-counts m (Send from to own word causes)) (rw (eq-eqb (stepOf m (Send from to own word causes) .answer) 0 y))
-      (ap (λ (a : Answered). view (a .machine) (number (m .made) 0) .causes) x ∙ ap (λ (w : View). w .causes) (new-sender m c from to own word causes (send-taken m from to own causes e .room)))
+      (ap (λ (a : Answered). view (a .machine) (number (m .made) 0) .causes) x ∙ ap (λ (w : View). w .causes) (new-sender m c from to own word causes (taken-when m (Send from to own word causes) e .room)))
   taken (Receive k) e = other-kind (Receive k) e refl refl
   taken (PreCheck a) e = other-kind (PreCheck a) e refl refl
   taken (SendRecord a) e = other-kind (SendRecord a) e refl refl
