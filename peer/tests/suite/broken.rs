@@ -1,6 +1,6 @@
 //! Document 01's list of what makes a machine value broken, and what readings 7 adds.
 
-use crate::common::{run, M, S};
+use crate::common::{run, M, S, SENDER_MOVES};
 use peer::machine::{
     Application, Contents, Entry, Machine, Phase, Place, Record, Repair, Status, View, What,
 };
@@ -18,13 +18,7 @@ fn sound() -> Machine {
     let (machine, answers) = run(&format!(
         "{M}{S}
         receive 0
-        pre-check 0
-        send-record 0
-        timeout 0 store 2
-        send-record 0
-        take-record store 2 key 0 role 0
-        take-ack store 2 key 0 role 0
-        post-check 0
+        {SENDER_MOVES}
         take-repair key 0 role 0
         send-update key 0 role 0
         send 1 0 own 1 data 8 causes 0

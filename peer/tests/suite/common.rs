@@ -14,6 +14,17 @@ pub const M: &str = "
 /// Document 01's send S.
 pub const S: &str = "send 0 1 own 0 data 7 causes -\n";
 
+/// After S: the sender moves to store 2, which takes and acknowledges its record, and it settles.
+pub const SENDER_MOVES: &str = "
+    pre-check 0
+    send-record 0
+    timeout 0 store 2
+    send-record 0
+    take-record store 2 key 0 role 0
+    take-ack store 2 key 0 role 0
+    post-check 0
+";
+
 /// The machine after a book, and the answer to each of its steps.
 pub fn run(text: &str) -> (Machine, Vec<u8>) {
     let book = text::read(text).unwrap_or_else(|error| panic!("{error}"));

@@ -1,6 +1,6 @@
 //! What the two programs print.
 
-use crate::common::{M, S};
+use crate::common::{M, S, SENDER_MOVES};
 use peer::programs::{inspect, recorder, MAX_INPUT};
 use peer::text;
 
@@ -49,14 +49,7 @@ W 1 2
 #[test]
 fn everything_in_flight_is_inspected() {
     let book = bytes(&format!(
-        "{M}{S}
-        pre-check 0
-        send-record 0
-        timeout 0 store 2
-        send-record 0
-        take-record store 2 key 0 role 0
-        take-ack store 2 key 0 role 0
-        post-check 0
+        "{M}{S}{SENDER_MOVES}
         crash 1"
     ));
     let expected = "run 0 9 9
@@ -104,14 +97,7 @@ fn refused_books_give_their_number_alone() {
 #[test]
 fn an_unreceived_view_shows_no_link_even_where_a_store_has_one() {
     let book = bytes(&format!(
-        "{M}{S}
-        pre-check 0
-        send-record 0
-        timeout 0 store 2
-        send-record 0
-        take-record store 2 key 0 role 0
-        take-ack store 2 key 0 role 0
-        post-check 0
+        "{M}{S}{SENDER_MOVES}
         take-repair key 0 role 0
         send-update key 0 role 0
         take-update store 1 key 0 role 0"
