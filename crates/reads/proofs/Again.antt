@@ -14,7 +14,6 @@ use lib.Pow.{areBytes}
 use borrow.Author.Tests.{ltb-true, ltb-false, leb-false, eqb-false, eqb-true}
 use Rattle.machine.specs.Words.{pick, table}
 use Rattle.rules.specs.declared.Step.{Step}
-use Rattle.runs.specs.declared.Cursor.{Cursor}
 use Rattle.runs.specs.declared.Read.{Read}
 use Rattle.runs.specs.declared.Read.the-variants.{Got, Bad}
 use Rattle.runs.specs.Book.{byte, low16, widths, widthOf, repairMade, shortMade, stepMade, readStep, onRead, validFrom, stepsFrom, homeRead, listRead, actorsRead, startOf, countOf, wellFormed, readingOf}
@@ -110,31 +109,31 @@ module _ (s : List ℕ) (bs : areBytes s ≡ true) (i : ℕ) where
       k (kind-low k h .0) (kind-low k h .1)
 
 -- what a step that was read says of the bytes
-record Found (s : List ℕ) (at : ℕ) (step : Step) (c : Cursor) : Type 0 where
+record Found (s : List ℕ) (at : ℕ) (step : Step) (behind : ℕ) : Type 0 where
   here : at < length s
   wide : widthOf (byte s at) ≡ 0 → ⊥
   fits : at + widthOf (byte s at) < length s
   made : stepMade s (byte s at) (at + 1) ≡ step
-  next : c .at ≡ at + 1 + widthOf (byte s at)
+  next : behind ≡ at + 1 + widthOf (byte s at)
 
-picked : (P : Type 0) (b₁ b₂ b₃ : Bool) (x step : Step) (y c : Cursor) → (b₁ ≡ false → b₂ ≡ false → b₃ ≡ false → x ≡ step → y ≡ c → P)
+picked : (P : Type 0) (b₁ b₂ b₃ : Bool) (x step : Step) (y c : ℕ) → (b₁ ≡ false → b₂ ≡ false → b₃ ≡ false → x ≡ step → y ≡ c → P)
     → pick b₁ Bad (pick (b₂ || b₃) Bad (Got x y)) ≡ Got step c → P
 picked P true b₂ b₃ x step y c f e = let z : _≡_ {A = ℕ} 0 1 = cc in let w : ⊥ = omega arith in absurd w
 picked P false true b₃ x step y c f e = let z : _≡_ {A = ℕ} 0 1 = cc in let w : ⊥ = omega arith in absurd w
 picked P false false true x step y c f e = let z : _≡_ {A = ℕ} 0 1 = cc in let w : ⊥ = omega arith in absurd w
 picked P false false false x step y c f e = f refl refl refl (cc) (cc)
 
-found : (s : List ℕ) (at : ℕ) (step : Step) (c : Cursor) → readStep s at ≡ Got step c → Found s at step c
+found : (s : List ℕ) (at : ℕ) (step : Step) (behind : ℕ) → readStep s at ≡ Got step behind → Found s at step behind
 unfolding readStep
-found s at step c e =
+found s at step behind e =
     let k : ℕ = byte s at in
-    picked (Found s at step c) (leb (length s) at) (eqb (widthOf k) 0) (leb (length s) (at + widthOf k)) (stepMade s k (at + 1)) step (record { at = at + 1 + widthOf k }) c
-    (λ p q r m n. record { here = leb-false _ _ p; wide = eqb-false _ _ q; fits = leb-false _ _ r; made = m; next = ap (λ (x : Cursor). x .at) (sym n) }) e
+    picked (Found s at step behind) (leb (length s) at) (eqb (widthOf k) 0) (leb (length s) (at + widthOf k)) (stepMade s k (at + 1)) step (at + 1 + widthOf k) behind
+    (λ p q r m n. record { here = leb-false _ _ p; wide = eqb-false _ _ q; fits = leb-false _ _ r; made = m; next = sym n }) e
 
 -- the bytes of a step that was read, and the rest
-step-again : (s : List ℕ) → areBytes s ≡ true → (at : ℕ) (step : Step) (c : Cursor) → readStep s at ≡ Got step c → drop at s ≡ written step ++ drop (c .at) s
-step-again s bs at step c e =
-    let h : Found s at step c = found s at step c e in
+step-again : (s : List ℕ) → areBytes s ≡ true → (at : ℕ) (step : Step) (behind : ℕ) → readStep s at ≡ Got step behind → drop at s ≡ written step ++ drop behind s
+step-again s bs at step behind e =
+    let h : Found s at step behind = found s at step behind e in
     let k : ℕ = byte s at in
     let l : at + 1 + widthOf k ≤ length s = omega (arith, h .fits) in
     let m : written (stepMade s k (at + 1)) ≡ k ∷ from s (at + 1) (widthOf k) = step-same s bs (at + 1) k (h .wide) in
@@ -145,7 +144,7 @@ again-on : (s : List ℕ) (bs : areBytes s ≡ true) (n at : ℕ) (r : Read) →
     → onRead r false (λ step p. validFrom s n p) ≡ true → drop at s ≡ writtenSteps (onRead r [] (λ step p. step ∷ stepsFrom s n p))
 unfolding writtenSteps
 again-on s bs n at Bad q f e = absurd (false≢true e)
-again-on s bs n at (Got step c) q f e = step-again s bs at step c q ∙ ap (λ (x : List ℕ). written step ++ x) (f (c .at) e)
+again-on s bs n at (Got step behind) q f e = step-again s bs at step behind q ∙ ap (λ (x : List ℕ). written step ++ x) (f behind e)
 
 -- what stands from a place to the end is the bytes of the steps that are read there
 steps-again : (s : List ℕ) (bs : areBytes s ≡ true) (n at : ℕ) → validFrom s n at ≡ true → drop at s ≡ writtenSteps (stepsFrom s n at)

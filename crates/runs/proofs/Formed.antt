@@ -22,7 +22,7 @@ use Rattle.runs.specs.Run.{answers, stepsRead, legalSetup, freshOf, book
 on-valid : (s : List ℕ) (n : ℕ) (r : Read) → ((p : ℕ) → validFrom s n p ≡ true → length (stepsFrom s n p) ≡ n)
     → onRead r false (λ step p. validFrom s n p) ≡ true → length (onRead r [] (λ step p. step ∷ stepsFrom s n p)) ≡ suc n
 on-valid s n Bad f e = absurd (false≢true e)
-on-valid s n (Got step c) f e = ap suc (f (c .at) e)
+on-valid s n (Got step p) f e = ap suc (f p e)
 
 valid-length : (s : List ℕ) (n at : ℕ) → validFrom s n at ≡ true → length (stepsFrom s n at) ≡ n
 unfolding validFrom stepsFrom
@@ -54,11 +54,11 @@ pub record Accepted (s : List ℕ) (room : ℕ) : Type 0 where
   pub legal : legalSetup (setupRead s) ≡ true
   pub fits : length (stepsRead s) ≤ room
 
-accepted-by : {P : Type 0} (a b c : Bool) → (a ≡ true → b ≡ true → c ≡ false → P) → _≡_ {A = ℕ} (pick (not a) 10 (pick (not b) 11 (pick c 12 0))) 0 → P
+accepted-by : {P : Type 0} (a b p : Bool) → (a ≡ true → b ≡ true → p ≡ false → P) → _≡_ {A = ℕ} (pick (not a) 10 (pick (not b) 11 (pick p 12 0))) 0 → P
 accepted-by true true false f e = f refl refl refl
 accepted-by true true true f e = let z : _≡_ {A = ℕ} 12 0 = e in let y : ⊥ = omega arith in absurd y
-accepted-by true false c f e = let z : _≡_ {A = ℕ} 11 0 = e in let y : ⊥ = omega arith in absurd y
-accepted-by false b c f e = let z : _≡_ {A = ℕ} 10 0 = e in let y : ⊥ = omega arith in absurd y
+accepted-by true false p f e = let z : _≡_ {A = ℕ} 11 0 = e in let y : ⊥ = omega arith in absurd y
+accepted-by false b p f e = let z : _≡_ {A = ℕ} 10 0 = e in let y : ⊥ = omega arith in absurd y
 
 pub accepted : (s : List ℕ) (room : ℕ) → bookNo s room ≡ 0 → Accepted s room
 unfolding bookNo

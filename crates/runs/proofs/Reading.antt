@@ -10,7 +10,6 @@ use lib.Dec.{ltb, eqb}
 use lib.ListN.{length, getD}
 use borrow.Author.Tests.{ltb-true}
 use Rattle.rules.specs.declared.Step.{Step}
-use Rattle.runs.specs.declared.Cursor.{Cursor}
 use Rattle.runs.specs.declared.Read.the-variants.{Got, Bad}
 use Rattle.runs.specs.Book.{widths, widthOf, readStep, validFrom, stepsFrom}
 
@@ -34,7 +33,7 @@ unfolding validFrom
 valid-bad s zero at h e = let z : ⊥ = omega arith in absurd z
 valid-bad s (suc n) at h e = simp e
 
-valid-got : (s : List ℕ) (n at : ℕ) {step : Step} {c : Cursor} → 0 < n → readStep s at ≡ Got step c → validFrom s n at ≡ validFrom s (n - 1) (c .at)
+valid-got : (s : List ℕ) (n at : ℕ) {step : Step} {p : ℕ} → 0 < n → readStep s at ≡ Got step p → validFrom s n at ≡ validFrom s (n - 1) p
 unfolding validFrom
 valid-got s zero at h e = let z : ⊥ = omega arith in absurd z
 valid-got s (suc n) at h e = simp (e, sub-one)
@@ -49,7 +48,7 @@ unfolding stepsFrom
 steps-bad s zero at e = refl
 steps-bad s (suc n) at e = simp e
 
-pub steps-got : (s : List ℕ) (n at : ℕ) {step : Step} {c : Cursor} → 0 < n → readStep s at ≡ Got step c → stepsFrom s n at ≡ step ∷ stepsFrom s (n - 1) (c .at)
+pub steps-got : (s : List ℕ) (n at : ℕ) {step : Step} {p : ℕ} → 0 < n → readStep s at ≡ Got step p → stepsFrom s n at ≡ step ∷ stepsFrom s (n - 1) p
 unfolding stepsFrom
 steps-got s zero at h e = let z : ⊥ = omega arith in absurd z
 steps-got s (suc n) at h e = simp (e, sub-one)
@@ -59,15 +58,15 @@ unfolding stepsFrom
 steps-end s zero at h = refl
 steps-end s (suc n) at h = let z : ⊥ = omega arith in absurd z
 
-pub record Checking (s : List ℕ) (n : ℕ) (c₀ c : Cursor) (left : ℕ) : Type 0 where
-  pub same : validFrom s left (c .at) ≡ validFrom s n (c₀ .at)
+pub record Checking (s : List ℕ) (n p₀ p left : ℕ) : Type 0 where
+  pub same : validFrom s left p ≡ validFrom s n p₀
 
-module _ {s : List ℕ} {n : ℕ} {c₀ c : Cursor} {left : ℕ} (h : Checking s n c₀ c left) where
-  pub check-bad : 0 < left → readStep s (c .at) ≡ Bad → false ≡ validFrom s n (c₀ .at)
-  check-bad b e = sym (valid-bad s left (c .at) b e) ∙ h .same
+module _ {s : List ℕ} {n p₀ p left : ℕ} (h : Checking s n p₀ p left) where
+  pub check-bad : 0 < left → readStep s p ≡ Bad → false ≡ validFrom s n p₀
+  check-bad b e = sym (valid-bad s left p b e) ∙ h .same
 
-  pub check-got : {step : Step} {d : Cursor} → 0 < left → readStep s (c .at) ≡ Got step d → Checking s n c₀ d (left - 1)
-  check-got b e = record { same = sym (valid-got s left (c .at) b e) ∙ h .same }
+  pub check-got : {step : Step} {next : ℕ} → 0 < left → readStep s p ≡ Got step next → Checking s n p₀ next (left - 1)
+  check-got b e = record { same = sym (valid-got s left p b e) ∙ h .same }
 
-  pub check-end : left ≤ 0 → eqb (c .at) (length s) ≡ validFrom s n (c₀ .at)
-  check-end b = sym (valid-end s left (c .at) b) ∙ h .same
+  pub check-end : left ≤ 0 → eqb p (length s) ≡ validFrom s n p₀
+  check-end b = sym (valid-end s left p b) ∙ h .same

@@ -17,7 +17,6 @@ use Rattle.machine.specs.declared.Answered.{Answered}
 use Rattle.rules.specs.Step.{stepOf}
 use Rattle.rules.specs.declared.Step.{Step}
 use Rattle.keeps.proofs.Keeps.{step-keeps}
-use Rattle.runs.specs.declared.Cursor.{Cursor}
 use Rattle.runs.specs.declared.Read.{Read}
 use Rattle.runs.specs.declared.Read.the-variants.{Got, Bad}
 use Rattle.runs.specs.Book.{readStep, stepsFrom, onRead}
@@ -25,18 +24,18 @@ use Rattle.runs.specs.Run.{ran, answers, filled, fullRun}
 use Rattle.runs.proofs.Formed.{answers-length}
 use Rattle.runs.proofs.Reading.{steps-bad, steps-got, steps-end}
 
-pub record Running (s : List ℕ) (n : ℕ) (a₀ : List ℕ) (c₀ : Cursor) (m₀ : Machine) (a : List ℕ) (c : Cursor) (m : Machine) (i taken : ℕ) : Type 0 where
+pub record Running (s : List ℕ) (n : ℕ) (a₀ : List ℕ) (p₀ : ℕ) (m₀ : Machine) (a : List ℕ) (p : ℕ) (m : Machine) (i taken : ℕ) : Type 0 where
   pub low : i ≤ n
   pub few : taken ≤ i
   pub long : length a ≡ length a₀
   pub unbroken : brokenOf m ≡ false
-  pub machine : ran m (stepsFrom s (n - i) (c .at)) ≡ ran m₀ (stepsFrom s n (c₀ .at))
-  pub steps : i + length (stepsFrom s (n - i) (c .at)) ≡ length (stepsFrom s n (c₀ .at))
-  pub zeros : taken + times 0 (answers m (stepsFrom s (n - i) (c .at))) ≡ times 0 (answers m₀ (stepsFrom s n (c₀ .at)))
-  pub buffer : sets a i (answers m (stepsFrom s (n - i) (c .at))) ≡ sets a₀ 0 (answers m₀ (stepsFrom s n (c₀ .at)))
+  pub machine : ran m (stepsFrom s (n - i) p) ≡ ran m₀ (stepsFrom s n p₀)
+  pub steps : i + length (stepsFrom s (n - i) p) ≡ length (stepsFrom s n p₀)
+  pub zeros : taken + times 0 (answers m (stepsFrom s (n - i) p)) ≡ times 0 (answers m₀ (stepsFrom s n p₀))
+  pub buffer : sets a i (answers m (stepsFrom s (n - i) p)) ≡ sets a₀ 0 (answers m₀ (stepsFrom s n p₀))
 
-pub run-start : {s : List ℕ} {n : ℕ} {a : List ℕ} {c : Cursor} {m : Machine} → brokenOf m ≡ false → Running s n a c m a c m 0 0
-run-start {s} {n} {a} {c} {m} h =
+pub run-start : {s : List ℕ} {n : ℕ} {a : List ℕ} {p : ℕ} {m : Machine} → brokenOf m ≡ false → Running s n a p m a p m 0 0
+run-start {s} {n} {a} {p} {m} h =
     let e : n - 0 ≡ n = omega arith in
     record { low = omega arith; few = omega arith; long = refl; unbroken = h; machine = rw e; steps = rw e (omega arith); zeros = rw e (omega arith); buffer = rw e }
 
@@ -44,12 +43,12 @@ pub one-low : (b : Bool) → one b ≤ 1
 one-low true = omega arith
 one-low false = omega arith
 
-module _ {s : List ℕ} {n : ℕ} {a₀ : List ℕ} {c₀ : Cursor} {m₀ : Machine} {a : List ℕ} {c : Cursor} {m : Machine} {i taken : ℕ} (h : Running s n a₀ c₀ m₀ a c m i taken) where
-  pub run-step : {step : Step} {d : Cursor} {r : Answered} {b : List ℕ} {k : ℕ} → i < n → readStep s (c .at) ≡ Got step d → r ≡ stepOf m step
-      → b ≡ set a i (r .answer) → k ≡ one (eqb (r .answer) 0) → Running s n a₀ c₀ m₀ b d (r .machine) (i + 1) (taken + k)
+module _ {s : List ℕ} {n : ℕ} {a₀ : List ℕ} {p₀ : ℕ} {m₀ : Machine} {a : List ℕ} {p : ℕ} {m : Machine} {i taken : ℕ} (h : Running s n a₀ p₀ m₀ a p m i taken) where
+  pub run-step : {step : Step} {next : ℕ} {r : Answered} {b : List ℕ} {k : ℕ} → i < n → readStep s p ≡ Got step next → r ≡ stepOf m step
+      → b ≡ set a i (r .answer) → k ≡ one (eqb (r .answer) 0) → Running s n a₀ p₀ m₀ b next (r .machine) (i + 1) (taken + k)
   unfolding ran answers times
-  run-step {step} {d} {r} {b} {k} j e q w o =
-      let f : stepsFrom s (n - i) (c .at) ≡ step ∷ stepsFrom s (n - i - 1) (d .at) = steps-got s (n - i) (c .at) (omega arith) e in
+  run-step {step} {next} {r} {b} {k} j e q w o =
+      let f : stepsFrom s (n - i) p ≡ step ∷ stepsFrom s (n - i - 1) next = steps-got s (n - i) p (omega arith) e in
       let g : n - i - 1 ≡ n - (i + 1) = omega arith in
       record {
         low = omega arith;
@@ -72,7 +71,7 @@ sets-filled m steps a h =
 
 on-length : (s : List ℕ) (n : ℕ) (r : Read) → ((p : ℕ) → length (stepsFrom s n p) ≤ n) → length (onRead r [] (λ step p. step ∷ stepsFrom s n p)) ≤ suc n
 on-length s n Bad f = omega arith
-on-length s n (Got step c) f = omega (arith, f (c .at))
+on-length s n (Got step p) f = omega (arith, f p)
 
 steps-length : (s : List ℕ) (n at : ℕ) → length (stepsFrom s n at) ≤ n
 unfolding stepsFrom
@@ -80,21 +79,21 @@ steps-length s zero at = omega arith
 steps-length s (suc n) at = on-length s n (readStep s at) (steps-length s n)
 
 -- where nothing more is to be run
-module _ {s : List ℕ} {n : ℕ} {a₀ : List ℕ} {c₀ : Cursor} {m₀ : Machine} {a : List ℕ} {c : Cursor} {m : Machine} {i taken : ℕ} (h : Running s n a₀ c₀ m₀ a c m i taken) (fits : n ≤ length a₀) where
+module _ {s : List ℕ} {n : ℕ} {a₀ : List ℕ} {p₀ : ℕ} {m₀ : Machine} {a : List ℕ} {p : ℕ} {m : Machine} {i taken : ℕ} (h : Running s n a₀ p₀ m₀ a p m i taken) (fits : n ≤ length a₀) where
   abbrev Ended : Type 0
-  Ended = (record { machine = m; answer = 0; steps = i; taken = taken } ≡ fullRun m₀ (stepsFrom s n (c₀ .at))) × (a ≡ filled m₀ (stepsFrom s n (c₀ .at)) a₀)
+  Ended = (record { machine = m; answer = 0; steps = i; taken = taken } ≡ fullRun m₀ (stepsFrom s n p₀)) × (a ≡ filled m₀ (stepsFrom s n p₀) a₀)
 
-  ended : stepsFrom s (n - i) (c .at) ≡ [] → Ended
+  ended : stepsFrom s (n - i) p ≡ [] → Ended
   unfolding ran answers times
   ended e =
-      let x : m ≡ ran m₀ (stepsFrom s n (c₀ .at)) = rw e at (h .machine) in
-      let y : i ≡ length (stepsFrom s n (c₀ .at)) = omega (arith, rw e at (h .steps)) in
-      let z : taken ≡ times 0 (answers m₀ (stepsFrom s n (c₀ .at))) = omega (arith, rw e at (h .zeros)) in
-      let w : a ≡ sets a₀ 0 (answers m₀ (stepsFrom s n (c₀ .at))) = rw e at (h .buffer) in
-      (cc, w ∙ sets-filled m₀ (stepsFrom s n (c₀ .at)) a₀ (omega (arith, steps-length s n (c₀ .at))))
+      let x : m ≡ ran m₀ (stepsFrom s n p₀) = rw e at (h .machine) in
+      let y : i ≡ length (stepsFrom s n p₀) = omega (arith, rw e at (h .steps)) in
+      let z : taken ≡ times 0 (answers m₀ (stepsFrom s n p₀)) = omega (arith, rw e at (h .zeros)) in
+      let w : a ≡ sets a₀ 0 (answers m₀ (stepsFrom s n p₀)) = rw e at (h .buffer) in
+      (cc, w ∙ sets-filled m₀ (stepsFrom s n p₀) a₀ (omega (arith, steps-length s n p₀)))
 
-  pub run-bad : readStep s (c .at) ≡ Bad → Ended
-  run-bad e = ended (steps-bad s (n - i) (c .at) e)
+  pub run-bad : readStep s p ≡ Bad → Ended
+  run-bad e = ended (steps-bad s (n - i) p e)
 
   pub run-end : n ≤ i → Ended
-  run-end b = ended (steps-end s (n - i) (c .at) (omega arith))
+  run-end b = ended (steps-end s (n - i) p (omega arith))

@@ -61,14 +61,14 @@ stepMade s kind i =
 -- the step at a position and the place behind it; none for an unknown kind, or where the bytes end before the fields do
 abbrev pub readKind : List ℕ → ℕ → ℕ → ℕ → Read
 readKind s at kind width =
-    pick (eqb width 0 || leb (length s) (at + width)) Bad (Got (stepMade s kind (at + 1)) (record { at = at + 1 + width }))
+    pick (eqb width 0 || leb (length s) (at + width)) Bad (Got (stepMade s kind (at + 1)) (at + 1 + width))
 
 unfoldable pub readStep : List ℕ → ℕ → Read
 readStep s at = pick (leb (length s) at) Bad (readKind s at (byte s at) (widthOf (byte s at)))
 
 abbrev pub onRead : {A : Type 0} → Read → A → (Step → ℕ → A) → A
 onRead Bad none some = none
-onRead (Got step next) none some = some step (next .at)
+onRead (Got step next) none some = some step next
 
 -- n steps stand from here to the end, and nothing behind them
 unfoldable pub validFrom : List ℕ → ℕ → ℕ → Bool

@@ -1,6 +1,5 @@
 // How the bytes of a book are read: by position, where they stand in the caller's slice.
 
-use super::Cursor;
 use super::Read;
 use machine::Setup;
 use rules::Step;
@@ -117,52 +116,48 @@ fn step_made(s: &[u8], kind: u8, i: usize) -> Step
     short_made(kind, a, b, c, byte(s, i + 3))
 }
 
-impl Cursor {
-    // The step at the cursor, whose kind and width are known.
-    fn read_kind(self, s: &[u8], kind: u8, width: usize) -> Read
-        requires { ⌜ (width < 10) × (self .at < length (now s)) ⌝ }
-        ensures { λ r. ⌜ r ≡ readKind (now (s .entry)) (self .at) kind width ⌝ }
-    {
-        let at = self.at;
-        if width == 0 {
-            return Read::Bad;
-        }
-        if s.len() <= at + width {
-            return Read::Bad;
-        }
-        Read::Got(step_made(s, kind, at + 1), Cursor { at: at + 1 + width })
+// The step at a place, whose kind and width are known.
+fn read_kind(s: &[u8], at: usize, kind: u8, width: usize) -> Read
+    requires { ⌜ (width < 10) × (at < length (now s)) ⌝ }
+    ensures { λ r. ⌜ r ≡ readKind (now (s .entry)) at kind width ⌝ }
+{
+    if width == 0 {
+        return Read::Bad;
     }
-
-    pub(crate) fn read_step(self, s: &[u8]) -> Read
-        ensures { λ r. ⌜ r ≡ readStep (now (s .entry)) (self .at) ⌝ }
-    {
-        let at = self.at;
-        if s.len() <= at {
-            return Read::Bad;
-        }
-        let kind = s[at];
-        self.read_kind(s, kind, width_of(kind))
+    if s.len() <= at + width {
+        return Read::Bad;
     }
+    Read::Got(step_made(s, kind, at + 1), at + 1 + width)
+}
 
-    // Whether n steps stand from here to the end.
-    fn valid_from(self, s: &[u8], n: u16) -> bool
-        ensures { λ r. ⌜ r ≡ validFrom (now (s .entry)) n (self .at) ⌝ }
-    {
-        let mut c = self;
-        let mut left = n;
-        while 0 < left {
-            match c.read_step(s) {
-                Read::Bad => {
-                    return false;
-                }
-                Read::Got(_, next) => {
-                    c = next;
-                    left -= 1;
-                }
+pub(crate) fn read_step(s: &[u8], at: usize) -> Read
+    ensures { λ r. ⌜ r ≡ readStep (now (s .entry)) at ⌝ }
+{
+    if s.len() <= at {
+        return Read::Bad;
+    }
+    let kind = s[at];
+    read_kind(s, at, kind, width_of(kind))
+}
+
+// Whether n steps stand from here to the end.
+fn valid_from(s: &[u8], n: u16, from: usize) -> bool
+    ensures { λ r. ⌜ r ≡ validFrom (now (s .entry)) n from ⌝ }
+{
+    let mut at = from;
+    let mut left = n;
+    while 0 < left {
+        match read_step(s, at) {
+            Read::Bad => {
+                return false;
+            }
+            Read::Got(_, next) => {
+                at = next;
+                left -= 1;
             }
         }
-        c.at == s.len()
     }
+    at == s.len()
 }
 
 pub(crate) fn start_of(s: &[u8]) -> usize
@@ -188,7 +183,7 @@ pub(crate) fn well_formed(s: &[u8]) -> bool
     if 4096 < count {
         return false;
     }
-    Cursor { at: start }.valid_from(s, count)
+    valid_from(s, count, start)
 }
 
 // What stands in the row of an actor, blank behind the last: the home from 2 on, the list from 3 on.

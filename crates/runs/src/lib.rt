@@ -9,17 +9,13 @@ ghost use Rattle.runs.specs.Run.{refusedRun, runOf, bufferOf};
 ghost use Rattle.runs.specs.Drain.{drainOf};
 
 mod book;
+mod reader;
 mod steps;
 mod turns;
 
-// A place in a book.
-pub struct Cursor {
-    pub at: usize,
-}
-
 // What stands at a place of a book: a step and the place behind it, or none.
 pub enum Read {
-    Got(Step, Cursor),
+    Got(Step, usize),
     Bad,
 }
 
@@ -85,7 +81,7 @@ pub fn run(book: &[u8], answers: &mut [u8]) -> Ran
     }
     let m = made.machine;
     let at = book::start_of(book);
-    Cursor { at }.run_steps(book, n, m, answers)
+    steps::run_steps(book, n, at, m, answers)
 }
 
 // Takes steps until none applies. 1 for a broken value, then 5 if any store is down.

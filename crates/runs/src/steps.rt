@@ -1,8 +1,8 @@
 // The steps of a book, run one after another, each answered at its own index.
 
-use super::Cursor;
 use super::Ran;
 use super::Read;
+use super::reader;
 use machine::Machine;
 use rules::Recorder;
 ghost use mathlib.Core.Path.{_≡_};
@@ -30,42 +30,40 @@ fn put(answers: &mut [u8], i: u16, answer: u8)
     answers[i as usize] = answer;
 }
 
-impl Cursor {
-    // A refused step doesn't stop the run.
-    pub(crate) fn run_steps(self, s: &[u8], n: u16, m: Machine, answers: &mut [u8]) -> Ran
-        requires { ⌜ (n ≤ length (now answers)) × (brokenOf m ≡ false) ⌝ }
-        ensures { λ r. ⌜ (r ≡ fullRun m (stepsFrom (now (s .entry)) n (self .at))) × (now (answers .exit) ≡ filled m (stepsFrom (now (s .entry)) n (self .at)) (now (answers .entry))) ⌝ }
-    {
-        let mut c = self;
-        let mut m = m;
-        let mut i: u16 = 0;
-        let mut taken: u16 = 0;
-        while i < n {
-            match c.read_step(s) {
-                Read::Bad => {
-                    return Ran {
-                        machine: m,
-                        answer: 0,
-                        steps: i,
-                        taken,
-                    };
-                }
-                Read::Got(step, next) => {
-                    let r = Recorder { machine: m }.step_unbroken(step);
-                    put(answers, i, r.answer);
-                    taken += counted(r.answer);
-                    let after = r.machine;
-                    m = after;
-                    c = next;
-                    i += 1;
-                }
+// A refused step doesn't stop the run.
+pub(crate) fn run_steps(s: &[u8], n: u16, from: usize, m: Machine, answers: &mut [u8]) -> Ran
+    requires { ⌜ (n ≤ length (now answers)) × (brokenOf m ≡ false) ⌝ }
+    ensures { λ r. ⌜ (r ≡ fullRun m (stepsFrom (now (s .entry)) n from)) × (now (answers .exit) ≡ filled m (stepsFrom (now (s .entry)) n from) (now (answers .entry))) ⌝ }
+{
+    let mut at = from;
+    let mut m = m;
+    let mut i: u16 = 0;
+    let mut taken: u16 = 0;
+    while i < n {
+        match reader::step_at(s, at) {
+            Read::Bad => {
+                return Ran {
+                    machine: m,
+                    answer: 0,
+                    steps: i,
+                    taken,
+                };
+            }
+            Read::Got(step, next) => {
+                let r = Recorder { machine: m }.step_unbroken(step);
+                put(answers, i, r.answer);
+                taken += counted(r.answer);
+                let after = r.machine;
+                m = after;
+                at = next;
+                i += 1;
             }
         }
-        Ran {
-            machine: m,
-            answer: 0,
-            steps: i,
-            taken,
-        }
+    }
+    Ran {
+        machine: m,
+        answer: 0,
+        steps: i,
+        taken,
     }
 }

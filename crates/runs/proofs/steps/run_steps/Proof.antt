@@ -6,20 +6,20 @@ use native.Mathlib.Omega.{arith}
 use lib.Dec.{eqb}
 use borrow.Author.Needs.{needs}
 use Rattle.runs.proofs.Running.{Running, one-low, run-start, run-step, run-bad, run-end}
-use Rattle.runs.proofs.Cursor.run_steps.Statement.{statement}
-use Rattle.runs.proofs.Cursor.run_steps.Tie as tie
+use Rattle.runs.proofs.steps.run_steps.Statement.{statement}
+use Rattle.runs.proofs.steps.run_steps.Tie as tie
 
 abbrev Inv-loop : tie.InvT-loop
-Inv-loop s n answers₀ c₀ m₀ i₀ taken₀ answers c m i taken = Running s n answers₀ c₀ m₀ answers c m i taken
+Inv-loop s n from answers₀ at₀ m₀ i₀ taken₀ answers at m i taken = Running s n answers₀ from m₀ answers at m i taken
 
 abbrev μ-loop : tie.MeasureT-loop
-μ-loop s n answers₀ c₀ m₀ i₀ taken₀ answers c m i taken = n - i
+μ-loop s n from answers₀ at₀ m₀ i₀ taken₀ answers at m i taken = n - i
 
 loop-holds : tie.Need-loop-holds Inv-loop μ-loop
 loop-holds c = run-start (c .before .before .pre .1)
 
-read-step-requires : tie.Need-read-step-requires Inv-loop μ-loop
-read-step-requires c κs = search needs
+step-at-requires : tie.Need-step-at-requires Inv-loop μ-loop
+step-at-requires c κs = search needs
 
 enum-told : tie.Need-enum-told Inv-loop μ-loop
 enum-told c = search needs
@@ -28,7 +28,7 @@ same-length : tie.Need-same-length Inv-loop μ-loop
 same-length c = c .before .before .before .before .loop .inv .long
 
 returns : tie.Need-returns Inv-loop μ-loop
-returns c = run-bad (c .before .before .before .before .loop .inv) (c .before .before .before .before .before .before .before .pre .0) (sym (c .before .before .read-step .ensures) ∙ c .enum-told .given .1)
+returns c = run-bad (c .before .before .before .before .loop .inv) (c .before .before .before .before .before .before .before .pre .0) (sym (c .before .before .step-at .ensures) ∙ c .enum-told .given .1)
 
 enum-known-step : tie.Need-enum-known-step Inv-loop μ-loop
 enum-known-step c = search needs
@@ -52,7 +52,7 @@ loop-less : tie.Need-loop-less Inv-loop μ-loop
 loop-less c = omega arith
 
 loop-again : tie.Need-loop-again Inv-loop μ-loop
-loop-again c = run-step (c .before .before .before .before .before .before .before .before .before .before .before .before .loop .inv) (c .before .before .before .before .before .before .before .before .before .before .before .loop-test .taken) (sym (c .before .before .before .before .before .before .before .before .before .before .read-step .ensures) ∙ c .before .before .before .before .before .before .before .before .step .given .1) (c .before .before .before .before .before .before .step-unbroken .ensures) (c .before .before .before .before .put .ensures) (c .before .counted .ensures)
+loop-again c = run-step (c .before .before .before .before .before .before .before .before .before .before .before .before .loop .inv) (c .before .before .before .before .before .before .before .before .before .before .before .loop-test .taken) (sym (c .before .before .before .before .before .before .before .before .before .before .step-at .ensures) ∙ c .before .before .before .before .before .before .before .before .step .given .1) (c .before .before .before .before .before .before .step-unbroken .ensures) (c .before .before .before .before .put .ensures) (c .before .counted .ensures)
 
 same-length-2 : tie.Need-same-length-2 Inv-loop μ-loop
 same-length-2 c = c .before .loop .inv .long
@@ -67,7 +67,7 @@ run-steps-spec =
     Inv-loop
     μ-loop
     loop-holds
-    read-step-requires
+    step-at-requires
     enum-told
     same-length
     returns

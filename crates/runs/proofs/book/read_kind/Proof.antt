@@ -1,8 +1,8 @@
 -- Each exit is the case that the tests pick. Assumes nothing.
 use borrow.Author.Needs.{needs}
 use Rattle.machine.proofs.Tests.{tests}
-use Rattle.runs.proofs.Cursor.read_kind.Statement.{statement}
-use Rattle.runs.proofs.Cursor.read_kind.Tie as tie
+use Rattle.runs.proofs.book.read_kind.Statement.{statement}
+use Rattle.runs.proofs.book.read_kind.Tie as tie
 
 returns : tie.Need-returns
 returns c = search tests
@@ -19,11 +19,11 @@ add-step-made c = search needs
 step-made-requires : tie.Need-step-made-requires
 step-made-requires c κs = search needs
 
-add-t8 : tie.Need-add-t8
-add-t8 c = search needs
+add-t7 : tie.Need-add-t7
+add-t7 c = search needs
 
-add-t10 : tie.Need-add-t10
-add-t10 c = search needs
+add-t9 : tie.Need-add-t9
+add-t9 c = search needs
 
 returns-3 : tie.Need-returns-3
 returns-3 c = search (tests, c .step-made .ensures)
@@ -31,4 +31,4 @@ returns-3 c = search (tests, c .step-made .ensures)
 pub read-kind-spec : {M : Type 1} → statement M
 read-kind-spec =
     tie.close
-    (tie.spec returns add-if2 returns-2 add-step-made step-made-requires add-t8 add-t10 returns-3)
+    (tie.spec returns add-if2 returns-2 add-step-made step-made-requires add-t7 add-t9 returns-3)

@@ -6,8 +6,8 @@ use borrow.Author.Needs.{needs}
 use Rattle.machine.proofs.Tests.{tests}
 use Rattle.runs.specs.Book.{readStep}
 use Rattle.runs.proofs.Reading.{width-low}
-use Rattle.runs.proofs.Cursor.read_step.Statement.{statement}
-use Rattle.runs.proofs.Cursor.read_step.Tie as tie
+use Rattle.runs.proofs.book.read_step.Statement.{statement}
+use Rattle.runs.proofs.book.read_step.Tie as tie
 
 returns : tie.Need-returns
 unfolding readStep
@@ -20,7 +20,7 @@ width-of-requires : tie.Need-width-of-requires
 width-of-requires c κs = search needs
 
 read-kind-requires : tie.Need-read-kind-requires
-read-kind-requires c κs = omega (arith, width-low (getD (c .before .before .before .before .args .s .now) (c .before .before .before .before .args .self .at) 0))
+read-kind-requires c κs = omega (arith, width-low (getD (c .before .before .before .before .args .s .now) (c .before .before .before .before .args .at) 0))
 
 returns-2 : tie.Need-returns-2
 unfolding readStep

@@ -1,17 +1,17 @@
--- The loop checks as the definition does: what is left to check from the cursor answers as all did from the start. The measure is what is left.
+-- The loop checks as the definition does: what is left to check from here answers as all did from the start. The measure is what is left.
 -- Assumes nothing.
 use mathlib.Core.Path.{refl, sym, _∙_}
 use native.Mathlib.Omega.{arith}
 use borrow.Author.Needs.{needs}
 use Rattle.runs.proofs.Reading.{Checking, check-bad, check-got, check-end}
-use Rattle.runs.proofs.Cursor.valid_from.Statement.{statement}
-use Rattle.runs.proofs.Cursor.valid_from.Tie as tie
+use Rattle.runs.proofs.book.valid_from.Statement.{statement}
+use Rattle.runs.proofs.book.valid_from.Tie as tie
 
 abbrev Inv-loop : tie.InvT-loop
-Inv-loop s n c₀ left₀ c left = Checking s n c₀ c left
+Inv-loop s n from at₀ left₀ at left = Checking s n from at left
 
 abbrev μ-loop : tie.MeasureT-loop
-μ-loop s n c₀ left₀ c left = left
+μ-loop s n from at₀ left₀ at left = left
 
 loop-holds : tie.Need-loop-holds Inv-loop μ-loop
 loop-holds c = record { same = refl }
@@ -38,7 +38,7 @@ loop-again : tie.Need-loop-again Inv-loop μ-loop
 loop-again c = check-got (c .before .before .before .before .before .loop .inv) (c .before .before .before .before .loop-test .taken) (sym (c .before .before .before .read-step .ensures) ∙ c .before .next .given .1)
 
 returns-2 : tie.Need-returns-2 Inv-loop μ-loop
-returns-2 c = check-end (c .before .before .loop .inv) (c .before .loop-test .left)
+returns-2 c = check-end (c .before .loop .inv) (c .loop-test .left)
 
 pub valid-from-spec : {M : Type 1} → statement M
 valid-from-spec =
