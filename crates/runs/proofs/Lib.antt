@@ -1,3 +1,4 @@
+pub mod Passing
 pub mod Reading
 pub mod Running
 pub mod Formed

@@ -1,14 +1,11 @@
-// How the bytes of a book are read: by position, where they stand in the caller's slice.
+// What stands at a place of a book: a byte, or a step. Only the reader asks here; all else asks the reader.
 
 use super::Read;
-use machine::Setup;
 use rules::Step;
 ghost use mathlib.Core.Path.{_≡_};
 ghost use Prim.Native.Nat.{_+_, _*_, _^_, _<_};
-ghost use lib.Dec.{ltb};
 ghost use lib.ListN.{length};
-ghost use Rattle.machine.specs.Words.{pick, table};
-ghost use Rattle.runs.specs.Book.{byte, low16, low32, widthOf, repairMade, shortMade, stepMade, readKind, readStep, validFrom, actorsRead, startOf, countOf, wellFormed, setupRead};
+ghost use Rattle.runs.specs.Book.{byte, low16, low32, widthOf, repairMade, shortMade, stepMade, readKind, readStep};
 
 // By kind, how many bytes its fields take.
 const WIDTHS: [usize; 17] = [0, 9, 1, 1, 1, 2, 3, 3, 1, 2, 2, 3, 3, 2, 4, 1, 1];
@@ -21,21 +18,28 @@ fn width_of(kind: u8) -> usize
 }
 
 // The byte at i, 0 behind the end.
-fn byte(s: &[u8], i: usize) -> u8
+pub(crate) fn byte(s: &[u8], i: usize) -> u8
     ensures { λ r. ⌜ r ≡ byte (now (s .entry)) i ⌝ }
 {
     if i < s.len() { s[i] } else { 0 }
 }
 
-// Two bytes, low first.
+// A number of two bytes.
+pub(crate) fn joined(low: u8, high: u8) -> u16
+    ensures { λ r. ⌜ r ≡ low + high * 256 ⌝ }
+{
+    (low as u16) + (high as u16) * 256
+}
+
+// The number that stands at i in two bytes, low first.
 fn low16(s: &[u8], i: usize) -> u16
     requires { ⌜ i + 1 < 2 ^ 64 ⌝ }
     ensures { λ r. ⌜ r ≡ low16 (now (s .entry)) i ⌝ }
 {
-    (byte(s, i) as u16) + (byte(s, i + 1) as u16) * 256
+    joined(byte(s, i), byte(s, i + 1))
 }
 
-// Four bytes, low first.
+// The same in four bytes.
 fn low32(s: &[u8], i: usize) -> u32
     requires { ⌜ i + 3 < 2 ^ 64 ⌝ }
     ensures { λ r. ⌜ r ≡ low32 (now (s .entry)) i ⌝ }
@@ -138,87 +142,4 @@ pub(crate) fn read_step(s: &[u8], at: usize) -> Read
     }
     let kind = s[at];
     read_kind(s, at, kind, width_of(kind))
-}
-
-// Whether n steps stand from here to the end.
-fn valid_from(s: &[u8], n: u16, from: usize) -> bool
-    ensures { λ r. ⌜ r ≡ validFrom (now (s .entry)) n from ⌝ }
-{
-    let mut at = from;
-    let mut left = n;
-    while 0 < left {
-        match read_step(s, at) {
-            Read::Bad => {
-                return false;
-            }
-            Read::Got(_, next) => {
-                at = next;
-                left -= 1;
-            }
-        }
-    }
-    at == s.len()
-}
-
-pub(crate) fn start_of(s: &[u8]) -> usize
-    ensures { λ r. ⌜ r ≡ startOf (now (s .entry)) ⌝ }
-{
-    4 + 2 * (byte(s, 1) as usize)
-}
-
-pub(crate) fn count_of(s: &[u8]) -> u16
-    ensures { λ r. ⌜ r ≡ countOf (now (s .entry)) ⌝ }
-{
-    low16(s, 2 + 2 * (byte(s, 1) as usize))
-}
-
-pub(crate) fn well_formed(s: &[u8]) -> bool
-    ensures { λ r. ⌜ r ≡ wellFormed (now (s .entry)) ⌝ }
-{
-    let start = start_of(s);
-    let count = count_of(s);
-    if s.len() < start {
-        return false;
-    }
-    if 4096 < count {
-        return false;
-    }
-    valid_from(s, count, start)
-}
-
-// What stands in the row of an actor, blank behind the last: the home from 2 on, the list from 3 on.
-fn cell(s: &[u8], first: usize, a: usize) -> u8
-    requires { ⌜ (first < 4) × (a < 8) ⌝ }
-    ensures { λ r. ⌜ r ≡ pick (ltb a (actorsRead (now (s .entry)))) (byte (now (s .entry)) (first + 2 * a)) 0 ⌝ }
-{
-    if a < byte(s, 1) as usize {
-        return byte(s, first + 2 * a);
-    }
-    0
-}
-
-fn column(s: &[u8], first: usize) -> [u8; 8]
-    requires { ⌜ first < 4 ⌝ }
-    ensures { λ r. ⌜ r ≡ table (λ a. pick (ltb a (actorsRead (now (s .entry)))) (byte (now (s .entry)) (first + 2 * a)) 0) 8 ⌝ }
-{
-    let mut kept = [0u8; 8];
-    let mut a: usize = 0;
-    while a < 8 {
-        kept[a] = cell(s, first, a);
-        a += 1;
-    }
-    kept
-}
-
-pub(crate) fn setup_read(s: &[u8]) -> Setup
-    ensures { λ r. ⌜ r ≡ setupRead (now (s .entry)) ⌝ }
-{
-    let homes = column(s, 2);
-    let lists = column(s, 3);
-    Setup {
-        stores: byte(s, 0),
-        actors: byte(s, 1),
-        homes,
-        lists,
-    }
 }

@@ -9,6 +9,7 @@ ghost use Rattle.runs.specs.Run.{refusedRun, runOf, bufferOf};
 ghost use Rattle.runs.specs.Drain.{drainOf};
 
 mod book;
+mod heading;
 mod reader;
 mod steps;
 mod turns;
@@ -72,15 +73,15 @@ fn book_no(formed: bool, legal: bool, room: bool) -> u8
 pub fn run(book: &[u8], answers: &mut [u8]) -> Ran
     ensures { λ r. ⌜ (r ≡ runOf (now (book .entry)) (length (now (answers .entry)))) × (now (answers .exit) ≡ bufferOf (now (book .entry)) (now (answers .entry))) ⌝ }
 {
-    let formed = book::well_formed(book);
-    let made = book::setup_read(book).setup();
-    let n = book::count_of(book);
+    let formed = heading::well_formed(book);
+    let made = heading::setup_read(book).setup();
+    let n = heading::count_of(book);
     let no = book_no(formed, made.answer == 0, n as usize <= answers.len());
     if no != 0 {
         return refused_run(no);
     }
     let m = made.machine;
-    let at = book::start_of(book);
+    let at = heading::start_of(book);
     steps::run_steps(book, n, at, m, answers)
 }
 

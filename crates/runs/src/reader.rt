@@ -1,10 +1,10 @@
 // The book is read where it stands in the caller's bytes and never copied: a reader holds its slice and a place in it. A run has
-// no other way to the book's bytes than `step_at`.
+// no other way to the book's bytes than `byte_at` and `step_at`.
 
 use super::Read;
 use super::book;
 ghost use mathlib.Core.Path.{_≡_};
-ghost use Rattle.runs.specs.Book.{readStep};
+ghost use Rattle.runs.specs.Book.{byte, readStep};
 
 pub(crate) struct Reader<'a> {
     pub book: &'a [u8],
@@ -17,7 +17,14 @@ fn new<'a>(book: &'a [u8], at: usize) -> Reader<'a>
     Reader { book, at }
 }
 
-// The reader is taken apart: the work is done on the slice and the place.
+// The byte at the reader's place, 0 behind the end.
+fn byte<'a>(r: Reader<'a>) -> u8
+    ensures { λ b. ⌜ b ≡ byte (now (r .entry .book)) (r .entry .at) ⌝ }
+{
+    book::byte(r.book, r.at)
+}
+
+// The step at the reader's place.
 fn step<'a>(r: Reader<'a>) -> Read
     ensures { λ s. ⌜ s ≡ readStep (now (r .entry .book)) (r .entry .at) ⌝ }
 {
@@ -25,8 +32,14 @@ fn step<'a>(r: Reader<'a>) -> Read
 }
 
 // From a slice to a reader and back.
+pub(crate) fn byte_at(book: &[u8], at: usize) -> u8
+    ensures { λ b. ⌜ b ≡ byte (now (book .entry)) at ⌝ }
+{
+    byte(new(book, at))
+}
+
 pub(crate) fn step_at(book: &[u8], at: usize) -> Read
-    ensures { λ r. ⌜ r ≡ readStep (now (book .entry)) at ⌝ }
+    ensures { λ s. ⌜ s ≡ readStep (now (book .entry)) at ⌝ }
 {
     step(new(book, at))
 }

@@ -6,8 +6,8 @@ use lib.ListN.{getD}
 use lib.Dec.{ltb}
 use Rattle.machine.proofs.Fill.{Filled, fill-start, fill-step, fill-end}
 use Rattle.machine.specs.Words.{pick}
-use Rattle.runs.proofs.book.column.Statement.{statement}
-use Rattle.runs.proofs.book.column.Tie as tie
+use Rattle.runs.proofs.heading.column.Statement.{statement}
+use Rattle.runs.proofs.heading.column.Tie as tie
 
 abbrev Inv-loop : tie.InvT-loop
 Inv-loop s first kept₀ a₀ kept a = Filled (λ (a : ℕ). pick (ltb a (getD s 1 0)) (getD s (first + 2 * a) 0) 0) 8 kept a

@@ -1,8 +1,8 @@
 -- The setup is made of the counts and the two columns that were read. Assumes nothing.
 use borrow.Author.Needs.{needs}
 use Rattle.runs.specs.Book.{setupRead}
-use Rattle.runs.proofs.book.setup_read.Statement.{statement}
-use Rattle.runs.proofs.book.setup_read.Tie as tie
+use Rattle.runs.proofs.heading.setup_read.Statement.{statement}
+use Rattle.runs.proofs.heading.setup_read.Tie as tie
 
 column-requires : tie.Need-column-requires
 column-requires c κs = search needs
@@ -10,11 +10,11 @@ column-requires c κs = search needs
 column-requires-2 : tie.Need-column-requires-2
 column-requires-2 c κs = search needs
 
-byte-requires : tie.Need-byte-requires
-byte-requires c κs = search needs
+byte-at-requires : tie.Need-byte-at-requires
+byte-at-requires c κs = search needs
 
-byte-requires-2 : tie.Need-byte-requires-2
-byte-requires-2 c κs = search needs
+byte-at-requires-2 : tie.Need-byte-at-requires-2
+byte-at-requires-2 c κs = search needs
 
 returns : tie.Need-returns
 unfolding setupRead
@@ -22,4 +22,4 @@ returns c = cc
 
 pub setup-read-spec : {M : Type 1} → statement M
 setup-read-spec =
-    tie.close (tie.spec column-requires column-requires-2 byte-requires byte-requires-2 returns)
+    tie.close (tie.spec column-requires column-requires-2 byte-at-requires byte-at-requires-2 returns)

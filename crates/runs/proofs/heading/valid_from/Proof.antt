@@ -4,8 +4,8 @@ use mathlib.Core.Path.{refl, sym, _∙_}
 use native.Mathlib.Omega.{arith}
 use borrow.Author.Needs.{needs}
 use Rattle.runs.proofs.Reading.{Checking, check-bad, check-got, check-end}
-use Rattle.runs.proofs.book.valid_from.Statement.{statement}
-use Rattle.runs.proofs.book.valid_from.Tie as tie
+use Rattle.runs.proofs.heading.valid_from.Statement.{statement}
+use Rattle.runs.proofs.heading.valid_from.Tie as tie
 
 abbrev Inv-loop : tie.InvT-loop
 Inv-loop s n from at₀ left₀ at left = Checking s n from at left
@@ -16,14 +16,14 @@ abbrev μ-loop : tie.MeasureT-loop
 loop-holds : tie.Need-loop-holds Inv-loop μ-loop
 loop-holds c = record { same = refl }
 
-read-step-requires : tie.Need-read-step-requires Inv-loop μ-loop
-read-step-requires c κs = search needs
+step-at-requires : tie.Need-step-at-requires Inv-loop μ-loop
+step-at-requires c κs = search needs
 
 enum-told : tie.Need-enum-told Inv-loop μ-loop
 enum-told c = search needs
 
 returns : tie.Need-returns Inv-loop μ-loop
-returns c = check-bad (c .before .before .before .before .loop .inv) (c .before .before .before .loop-test .taken) (sym (c .before .before .read-step .ensures) ∙ c .enum-told .given .1)
+returns c = check-bad (c .before .before .before .before .loop .inv) (c .before .before .before .loop-test .taken) (sym (c .before .before .step-at .ensures) ∙ c .enum-told .given .1)
 
 enum-known-next : tie.Need-enum-known-next Inv-loop μ-loop
 enum-known-next c = search needs
@@ -35,7 +35,7 @@ loop-less : tie.Need-loop-less Inv-loop μ-loop
 loop-less c = omega arith
 
 loop-again : tie.Need-loop-again Inv-loop μ-loop
-loop-again c = check-got (c .before .before .before .before .before .loop .inv) (c .before .before .before .before .loop-test .taken) (sym (c .before .before .before .read-step .ensures) ∙ c .before .next .given .1)
+loop-again c = check-got (c .before .before .before .before .before .loop .inv) (c .before .before .before .before .loop-test .taken) (sym (c .before .before .before .step-at .ensures) ∙ c .before .next .given .1)
 
 returns-2 : tie.Need-returns-2 Inv-loop μ-loop
 returns-2 c = check-end (c .before .loop .inv) (c .loop-test .left)
@@ -47,7 +47,7 @@ valid-from-spec =
     Inv-loop
     μ-loop
     loop-holds
-    read-step-requires
+    step-at-requires
     enum-told
     returns
     enum-known-next

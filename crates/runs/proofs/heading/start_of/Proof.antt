@@ -1,11 +1,11 @@
 -- The steps start behind the rows, as defined. Assumes nothing.
 use borrow.Author.Needs.{needs}
 use Rattle.runs.specs.Book.{startOf}
-use Rattle.runs.proofs.book.start_of.Statement.{statement}
-use Rattle.runs.proofs.book.start_of.Tie as tie
+use Rattle.runs.proofs.heading.start_of.Statement.{statement}
+use Rattle.runs.proofs.heading.start_of.Tie as tie
 
-byte-requires : tie.Need-byte-requires
-byte-requires c κs = search needs
+byte-at-requires : tie.Need-byte-at-requires
+byte-at-requires c κs = search needs
 
 cast-result : tie.Need-cast-result
 cast-result c = search needs
@@ -21,4 +21,4 @@ unfolding startOf
 returns c = cc
 
 pub start-of-spec : {M : Type 1} → statement M
-start-of-spec = tie.close (tie.spec byte-requires cast-result mul-result add-result returns)
+start-of-spec = tie.close (tie.spec byte-at-requires cast-result mul-result add-result returns)

@@ -2,8 +2,8 @@
 use borrow.Author.Tests.{lt-leb, le-leb}
 use borrow.Author.Needs.{needs}
 use Rattle.runs.specs.Book.{wellFormed}
-use Rattle.runs.proofs.book.well_formed.Statement.{statement}
-use Rattle.runs.proofs.book.well_formed.Tie as tie
+use Rattle.runs.proofs.heading.well_formed.Statement.{statement}
+use Rattle.runs.proofs.heading.well_formed.Tie as tie
 
 start-of-requires : tie.Need-start-of-requires
 start-of-requires c κs = search needs
