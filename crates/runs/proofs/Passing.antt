@@ -52,39 +52,35 @@ B κs = T.the-row (namedLft 1 0 tt κs)
 abbrev slice : RefT (List ℕ) → Val
 slice s = sliceVal (s .ptr) (length (s .now))
 
--- the maker's contract: a reader of a book and a place
-abbrev making : Ended
-making = record {
+-- a function on a slice and a number
+abbrev on-slice-to : (Lfts 1 → RattleType) → Ended
+on-slice-to F = record {
   signature = record {
     lifetimes = 1;
     outlives = [];
     params = SliceRefOf (0 ∷ []) tt (plain (λ κs. u8)) (λ κs. tt) ∷ plain (λ κs. usize) ∷ [];
-    result = plain B;
+    result = plain F;
   };
   kept = (yes, (yes, tt));
 }
 
-abbrev Made : RefT (List ℕ) → ℕ → Reader → Type 0
-Made s n r = (r .book ≡ s) × (r .at ≡ n)
+-- the contract of the maker: the reader stands at a place of a book
+abbrev maker-ended : Ended
+maker-ended = on-slice-to B
 
-abbrev making-clauses : {M : Type 1} (𝓤 : URA M) → Clauses 𝓤 making
-making-clauses 𝓤 κs a = record { ghost = Unit {0}; requires = λ _. emp 𝓤; ensures = λ _ r _. fact 𝓤 (Made (a .0) (a .1 .0) r) }
+abbrev Stands : RefT (List ℕ) → ℕ → Reader → Type 0
+Stands s n r = (r .book ≡ s) × (r .at ≡ n)
 
-abbrev Making : {M : Type 1} (𝓤 : URA M) (H : Heap 𝓤) (A : Atoms 𝓤) → Contract 𝓤
-Making 𝓤 H A = tripleOf 𝓤 H A (making .signature) (closing 𝓤 H A making (making-clauses 𝓤))
+abbrev maker-clauses : {M : Type 1} (𝓤 : URA M) → Clauses 𝓤 maker-ended
+maker-clauses 𝓤 κs a = record { ghost = Unit {0}; requires = λ _. emp 𝓤; ensures = λ _ r _. fact 𝓤 (Stands (a .0) (a .1 .0) r) }
+
+abbrev Maker : {M : Type 1} (𝓤 : URA M) (H : Heap 𝓤) (A : Atoms 𝓤) → Contract 𝓤
+Maker 𝓤 H A = tripleOf 𝓤 H A (maker-ended .signature) (closing 𝓤 H A maker-ended (maker-clauses 𝓤))
 
 -- a result's type, its type in MIR, and what it is, of a book and a place
 module _ (R : RattleType) (ty : Ty) (f : List ℕ → ℕ → R .Denot) where
   abbrev on-slice : Ended
-  on-slice = record {
-    signature = record {
-      lifetimes = 1;
-      outlives = [];
-      params = SliceRefOf (0 ∷ []) tt (plain (λ κs. u8)) (λ κs. tt) ∷ plain (λ κs. usize) ∷ [];
-      result = plain (λ κs. R);
-    };
-    kept = (yes, (yes, tt));
-  }
+  on-slice = on-slice-to (λ κs. R)
 
   abbrev on-reader : Ended
   on-reader = record {
@@ -222,17 +218,17 @@ module _ (R : RattleType) (ty : Ty) (f : List ℕ → ℕ → R .Denot) where
         abbrev αᵉ : NamedLft
         αᵉ = record { mir = erased; lft = κ }
 
-        abbrev to-maker : Making 𝓤 H A .Ghost
+        abbrev to-maker : Maker 𝓤 H A .Ghost
         to-maker = (((κ, tt), (q, tt), tt, (s, (n, tt)), at), tt)
 
-        goes-maker : ent 𝓤 (onEntry 𝓤 H A (on-slice .signature) (κ, tt) (q, tt) (s, (n, tt)) at) (sep 𝓤 (Making 𝓤 H A .pre to-maker) (sem 𝓤 H A Own-slice))
+        goes-maker : ent 𝓤 (onEntry 𝓤 H A (on-slice .signature) (κ, tt) (q, tt) (s, (n, tt)) at) (sep 𝓤 (Maker 𝓤 H A .pre to-maker) (sem 𝓤 H A Own-slice))
         goes-maker =
             qed W ((‵ (flft κ q) ⊛ ‵ ftrue) ∷ ‵ (owns (ShrSlice (named 0) κ u8 ∷ usize ∷ []) (s, (n, tt)) at) ∷ []) ∵
             move ! (1 ∷ []) $ fsplit ! $ use1 W (‵ Own-slice ⊛ ‵ Own-slice) (shr-slice-copy 𝓤 H A W (named 0) κ u8 .twice s (slice s ∷ [])) $ split ! $
-            move ! (0 ∷ 2 ∷ []) $ fjoin ! $ move ! (2 ∷ 0 ∷ []) $ use2 W (raw (Making 𝓤 H A .pre to-maker)) (qed W ((‵ (flft κ q) ⊛ ‵ ftrue) ∷ ‵ (owns (ShrSlice (named 0) κ u8 ∷ usize ∷ []) (s, (n, tt)) at) ∷ []) ∵ join ! $ frame ! $ done !) $ frame ! $ done !
+            move ! (0 ∷ 2 ∷ []) $ fjoin ! $ move ! (2 ∷ 0 ∷ []) $ use2 W (raw (Maker 𝓤 H A .pre to-maker)) (qed W ((‵ (flft κ q) ⊛ ‵ ftrue) ∷ ‵ (owns (ShrSlice (named 0) κ u8 ∷ usize ∷ []) (s, (n, tt)) at) ∷ []) ∵ join ! $ frame ! $ done !) $ frame ! $ done !
 
-        maker-said : (r : Reader) → ent 𝓤 (ensured 𝓤 H A making (making-clauses 𝓤) (κ, tt) (s, (n, tt)) tt r) (fact 𝓤 (Made s n r))
-        maker-said r = exE 𝓤 _ (λ ws. snd∗ 𝓤 (sem 𝓤 H A (lasts making (κ, tt) (s, (n, tt)) ws)) (fact 𝓤 (Made s n r)))
+        maker-said : (r : Reader) → ent 𝓤 (ensured 𝓤 H A maker-ended (maker-clauses 𝓤) (κ, tt) (s, (n, tt)) tt r) (fact 𝓤 (Stands s n r))
+        maker-said r = exE 𝓤 _ (λ ws. snd∗ 𝓤 (sem 𝓤 H A (lasts maker-ended (κ, tt) (s, (n, tt)) ws)) (fact 𝓤 (Stands s n r)))
 
         -- the call of what the reader r, of the machine value u, is passed on to
         abbrev to-next : Reader → Val → OnReader .Ghost
@@ -250,15 +246,15 @@ module _ (R : RattleType) (ty : Ty) (f : List ℕ → ℕ → R .Denot) where
             suffices ! _ (ends-at 𝓤 H A on-slice slice-stays slice-clauses W (((κ, tt), (q, tt), tt, (s, (n, tt)), at), tt) u t (tt, (tt, tt)) (tt, (tt, tt))) $ says ! e $
             move ! (1 ∷ []) $ frame ! $ nothing ! $ owned ! usize (Is usize) (uint-makes 𝓤 H A W w64) n _ (refl, ok) $ fjoin ! $ move ! (2 ∷ 0 ∷ []) $ fjoin ! $ frame ! $ done !
 
-        module _ (maker callee : Name) (C : Calls 𝓤 H) (Λ : Loops 𝓤 H) (fm : FmC 𝓤 H (W .laws) C) (known-maker : Triple 𝓤 (C maker) (Making 𝓤 H A)) (known-next : Triple 𝓤 (C callee) OnReader) where
+        module _ (maker callee : Name) (C : Calls 𝓤 H) (Λ : Loops 𝓤 H) (fm : FmC 𝓤 H (W .laws) C) (known-maker : Triple 𝓤 (C maker) (Maker 𝓤 H A)) (known-next : Triple 𝓤 (C callee) OnReader) where
           made-walk : Is (ShrSlice (named 0) κ u8) s (slice s ∷ []) → ent 𝓤 (onEntry 𝓤 H A (on-slice .signature) (κ, tt) (q, tt) (s, (n, tt)) at) (WpFn 𝓤 H C Λ (made maker callee) (slice s ∷ vint w64 n ∷ []) Post-at)
           made-walk p =
               qed W (raw (onEntry 𝓤 H A (on-slice .signature) (κ, tt) (q, tt) (s, (n, tt)) at) ∷ []) ∵ enter ! C Λ (made maker callee) (slice s ∷ vint w64 n ∷ []) _ $
               alloc1 ! (λ l₀. alloc1 ! (λ l₁. alloc1 ! (λ l₂. alloc1 ! (λ l₃. alloc0 ! $ params1 ! $ pass1 ! (init ! 4 refl (shr-slice-lawful 𝓤 H A W (named 0) κ u8 .typed s (slice s ∷ []) p .0)) $ pass1 ! (init ! 2 refl (tt, record { fits = ok })) $ pass0 ! $
-              move ! (8 ∷ []) $ use1 W (raw (Making 𝓤 H A .pre to-maker) ⊛ ‵ Own-slice) goes-maker $ split ! $
-              calls-at ! fm (Making 𝓤 H A) known-maker to-maker (and-then ! (load ! (from ! (stop !)) (look ! 6 refl)) (and-then ! (load ! (from ! (stop !)) (look ! 4 refl)) (no-more !))) (λ u.
-              use1 W (later (some (λ (r : Reader). ((‵ (flft κ q) ⊛ ‵ ftrue) ⊛ ‵ (B (κ, tt) .own r (u ∷ []))) ⊛ raw (ensured 𝓤 H A making (making-clauses 𝓤) (κ, tt) (s, (n, tt)) tt r)))) (id⊢ 𝓤 _) $ await ! tt $ pick ! (λ r.
-              split ! $ move ! (1 ∷ []) $ use1 W (raw (fact 𝓤 (Made s n r))) (maker-said r) $ heard ! (Made s n r) (λ e. split ! $ move ! (1 ∷ []) $
+              move ! (8 ∷ []) $ use1 W (raw (Maker 𝓤 H A .pre to-maker) ⊛ ‵ Own-slice) goes-maker $ split ! $
+              calls-at ! fm (Maker 𝓤 H A) known-maker to-maker (and-then ! (load ! (from ! (stop !)) (look ! 6 refl)) (and-then ! (load ! (from ! (stop !)) (look ! 4 refl)) (no-more !))) (λ u.
+              use1 W (later (some (λ (r : Reader). ((‵ (flft κ q) ⊛ ‵ ftrue) ⊛ ‵ (B (κ, tt) .own r (u ∷ []))) ⊛ raw (ensured 𝓤 H A maker-ended (maker-clauses 𝓤) (κ, tt) (s, (n, tt)) tt r)))) (id⊢ 𝓤 _) $ await ! tt $ pick ! (λ r.
+              split ! $ move ! (1 ∷ []) $ use1 W (raw (fact 𝓤 (Stands s n r))) (maker-said r) $ heard ! (Stands s n r) (λ e. split ! $ move ! (1 ∷ []) $
               -- [what the reader owns; the token; what the book owns; room for _3; …; _2; …; _1; …; room for _0; …]
               peeks ! (B (κ, tt)) (Is (B (κ, tt))) (shows 𝓤 H A (B (κ, tt))) r (u ∷ []) (λ is.
               land ! (from ! (stop !)) (init ! 3 refl (LL.lawful (T.the-type αᵉ) (T′.the-laws αᵉ) 𝓤 H A W .typed r _ is .0)) $
@@ -272,7 +268,7 @@ module _ (R : RattleType) (ty : Ty) (f : List ℕ → ℕ → R .Denot) where
               returns ! (look ! 9 refl) $ forget ! 3 refl $ forget ! 5 refl $ forget ! 7 refl $ forget ! 9 refl $ move ! (9 ∷ 10 ∷ []) $ free1 ! $ move ! (7 ∷ 8 ∷ []) $ free1 ! $ move ! (5 ∷ 6 ∷ []) $ free1 ! $ move ! (3 ∷ 4 ∷ []) $ free1 ! $ free0 ! $
               by ! (exits-at t u′ (e′ ∙ (ap (λ (x : RefT (List ℕ)). f (now x) (r .at)) (e .0) ∙ ap (f (now s)) (e .1))))))))))))))))
 
-      pub made-meets : (maker callee : Name) (𝓣 : Tables 𝓤 H) → Triple 𝓤 (𝓣 .C maker) (Making 𝓤 H A) → Triple 𝓤 (𝓣 .C callee) OnReader
+      pub made-meets : (maker callee : Name) (𝓣 : Tables 𝓤 H) → Triple 𝓤 (𝓣 .C maker) (Maker 𝓤 H A) → Triple 𝓤 (𝓣 .C callee) OnReader
           → Meets 𝓤 H A (on-slice .signature) (WpFn 𝓤 H (𝓣 .C) (𝓣 .Λ) (made maker callee)) (closing 𝓤 H A on-slice slice-clauses)
       made-meets maker callee 𝓣 known-maker known-next =
           walk-meets 𝓤 H A on-slice slice-stays W (goes-none-slice 𝓤 H A W 1 (0 ∷ []) tt (plain (λ _. u8)) yes, (goes-none 𝓤 H A W 1 (λ _. usize) yes (λ κs x g. refl), tt)) slice-clauses (WpFn 𝓤 H (𝓣 .C) (𝓣 .Λ) (made maker callee)) (WpFn-mono 𝓤 H (W .laws) 𝓣 (made maker callee))
