@@ -1,4 +1,4 @@
--- `byte` takes the reader apart and calls `byte`: the result is the byte that stands there. Assumes nothing.
+-- The reader is taken apart, and the byte is looked up in its book. Assumes nothing.
 use contract.Running.{givenOf, tables, tablesOf}
 use mir.Syntax.{tyInt, w8}
 use denote.Builtin.{u8}

@@ -1,4 +1,4 @@
--- `byte_at` makes a reader and passes it on to `byte`: the result is the byte that stands there. Assumes nothing.
+-- A reader is made, and passed on to `byte`. Assumes nothing.
 use contract.Running.{givenOf, tables, tablesOf}
 use mir.Syntax.{tyInt, w8}
 use denote.Builtin.{u8}

@@ -1,4 +1,4 @@
--- `step` takes the reader apart and calls `read_step`: the result is the step that stands there. Assumes nothing.
+-- The reader is taken apart, and the step is read in its book. Assumes nothing.
 use contract.Running.{givenOf, tables, tablesOf}
 use denote.Enum.Laws as EL
 use Rattle.runs.proofs.Read as S

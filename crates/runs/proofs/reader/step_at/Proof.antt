@@ -1,4 +1,4 @@
--- `step_at` makes a reader and passes it on to `step`: the result is the step that stands there. Assumes nothing.
+-- A reader is made, and passed on to `step`. Assumes nothing.
 use contract.Running.{givenOf, tables, tablesOf}
 use denote.Enum.Laws as EL
 use Rattle.runs.proofs.Read as S
