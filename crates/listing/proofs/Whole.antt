@@ -6,7 +6,7 @@ use mathlib.Core.Bool.{Bool, true, false}
 use mathlib.Core.List.{List, [], _∷_, _++_, append-assoc}
 use native.Mathlib.Numerals.{add-one}
 use native.Mathlib.Omega.{arith}
-use lib.ListN.{length, take, set, length-set, length-append}
+use lib.ListN.{length, set, length-set, length-append}
 use lib.Seq.{take-suc-set}
 use lib.Dec.{ltb, eqb, leb}
 use borrow.Author.Tests.{lt-ltb}
@@ -15,7 +15,7 @@ use Rattle.machine.specs.declared.Machine.{Machine}
 use Rattle.listing.specs.declared.Text.{Text}
 use Rattle.listing.specs.Text.{noText, putOf, wrote}
 use Rattle.listing.specs.Listing.{decimal, large, refusedLine, countsLine, linkText, placeText, lineOf, viewLine, linesTo, listingOf}
-use Rattle.listing.specs.Whole.{shown, ListingShown, RefusalShown, OneListing, OneRefusal}
+use Rattle.listing.specs.Whole.{shown, ListingShown, ListingLength, RefusalShown, OneListing, OneRefusal}
 
 pick-short : (b : Bool) (xs ys : List ℕ) (k : ℕ) → length xs ≤ k → length ys ≤ k → length (pick b xs ys) ≤ k
 pick-short true xs ys k h j = h
@@ -92,6 +92,19 @@ reads-back t (x ∷ xs) l h =
 pub listing-shown : ListingShown
 listing-shown m steps taken =
     reads-back noText (listingOf m steps taken) refl (omega (arith, listing-short m steps taken))
+
+-- one byte more written is one more in the length
+counts-on : (t : Text) (xs : List ℕ) → t .len + length xs ≤ 1024 → wrote t xs .len ≡ t .len + length xs
+counts-on t [] h = omega arith
+counts-on t (x ∷ xs) h =
+    let room : t .len < 1024 = omega arith in
+    let rest : wrote (more t x) xs .len ≡ t .len + 1 + length xs = counts-on (more t x) xs (omega arith) in
+    ap (λ (u : Text). wrote u xs .len) (put-more t x room) ∙ omega arith
+
+pub listing-length : ListingLength
+listing-length m steps taken =
+    let short : length (listingOf m steps taken) ≤ 1024 = listing-short m steps taken in
+    (omega (arith, counts-on noText (listingOf m steps taken) (omega arith)), short)
 
 pub refusal-shown : RefusalShown
 unfolding refusedLine

@@ -16,6 +16,12 @@ shown t = take (t .len) (t .bytes)
 abbrev pub ListingShown : Type 0
 ListingShown = (m : Machine) (steps taken : ℕ) → shown (wrote noText (listingOf m steps taken)) ≡ listingOf m steps taken
 
+-- and its length is the listing's, which the text has room for
+abbrev pub ListingLength : Type 0
+ListingLength =
+    (m : Machine) (steps taken : ℕ) →
+    (wrote noText (listingOf m steps taken) .len ≡ length (listingOf m steps taken)) × (length (listingOf m steps taken) ≤ 1024)
+
 abbrev pub RefusalShown : Type 0
 RefusalShown = (n : ℕ) → shown (wrote noText (refusedLine n)) ≡ refusedLine n
 

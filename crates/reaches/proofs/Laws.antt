@@ -1,6 +1,6 @@
 -- The walk's promise has one result; an answered walk has exactly the keys that are reached, each once; a refused one has none.
 -- By what a visit from the start meets. Assumes nothing.
-use Prim.Native.Nat.{ℕ, _+_, _<_}
+use Prim.Native.Nat.{ℕ, _+_, _≤_, _<_}
 use mathlib.Core.Path.{_≡_, refl, sym, ap, subst, _∙_}
 use mathlib.Core.Logic.{_≢_, ⊎-elim}
 use mathlib.Core.Bool.{true, false}
@@ -17,7 +17,8 @@ use Rattle.machine.proofs.Laws.{unbroken, only}
 use Rattle.machine.proofs.Laws.Tests.{by-test, not-both}
 use Rattle.walk.specs.declared.Walked.{Walked}
 use Rattle.walk.specs.Walk.{unmet, walkedFrom, refusedWalk, walkOf}
-use Rattle.reaches.specs.Reaches.{Reach, here, by, Exactly, OneResult, AnsweredReaches, RefusedEmpty}
+use Rattle.walk.proofs.Counted.{few}
+use Rattle.reaches.specs.Reaches.{Reach, here, by, Exactly, OneResult, AnsweredReaches, KeysFew, RefusedEmpty}
 use Rattle.reaches.proofs.Keys.{IsMet, none-met, sound-unmet}
 use Rattle.reaches.proofs.Visited.{Visited, visited}
 
@@ -80,3 +81,10 @@ answered-reaches m k r p z = go (answer-of p)
     go : Answer m k r → Exactly m k r
     go (refusing n h e) = absurd (h (sym (ap (λ (x : Walked). x .answer) e) ∙ z))
     go (answering b l f e) = subst (λ (x : Walked). Exactly m k x) (sym e) (exactly m k b l f)
+
+pub keys-few : KeysFew
+keys-few m k r p = go (answer-of p)
+  where
+    go : Answer m k r → r .count ≤ 16
+    go (refusing n h e) = omega (arith, ap (λ (x : Walked). x .count) e)
+    go (answering b l f e) = omega (arith, ap (λ (x : Walked). x .count) e, few (begun m k b l f .after .sound .tally))

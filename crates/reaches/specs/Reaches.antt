@@ -37,6 +37,10 @@ OneResult = (m : Machine) (k : ℕ) (x y : Walked) → x ≡ walkOf m k → y �
 abbrev pub AnsweredReaches : Type 0
 AnsweredReaches = (m : Machine) (k : ℕ) (r : Walked) → r ≡ walkOf m k → r .answer ≡ 0 → Exactly m k r
 
+-- no walk has more than sixteen keys
+abbrev pub KeysFew : Type 0
+KeysFew = (m : Machine) (k : ℕ) (r : Walked) → r ≡ walkOf m k → r .count ≤ 16
+
 -- a refused walk has no keys
 abbrev pub RefusedEmpty : Type 0
 RefusedEmpty = (m : Machine) (k : ℕ) (r : Walked) → r ≡ walkOf m k → r .answer ≢ 0 → (r .keys ≡ replicate 16 0) × (r .count ≡ 0)

@@ -31,6 +31,10 @@ ones-set [] k h e = let z : ⊥ = omega arith in absurd z
 ones-set (b ∷ l) zero h e = omega (arith, ap one e)
 ones-set (b ∷ l) (suc k) h e = omega (arith, ones-set l k (omega arith) e)
 
+-- at most sixteen keys
+pub few : {w : Met} → Tally w → w .count ≤ 16
+few {w} t = omega (arith, t .long, t .counted, ones-low (w .met))
+
 -- an unmet key has room
 pub room : {w : Met} {k : ℕ} → Tally w → k < 16 → getD (w .met) k false ≡ false → w .count < 16
 room {w} {k} t h e = omega (arith, t .long, t .counted, ones-room (w .met) k (omega (arith, t .long)) e)

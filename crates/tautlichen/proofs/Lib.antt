@@ -1,0 +1,6 @@
+pub mod Copying
+pub mod Showing
+pub mod History
+pub mod Listed
+pub mod Refusing
+pub mod Only

@@ -1,0 +1,173 @@
+// The recorder as a library for callers in C, C++ and Rust: functions on numbers and byte slices. Each call is a function
+// of a book as the machine's history, answers document 01's number, and writes nothing where it refuses.
+use machine::Machine;
+use runs::Ran;
+ghost use mathlib.Core.Path.{_≡_};
+ghost use Prim.Native.Nat.{_≤_};
+ghost use lib.ListN.{length, take};
+ghost use lib.Dec.{ltb};
+ghost use Rattle.machine.specs.Words.{pick};
+ghost use Rattle.runs.specs.Run.{runOf, bufferOf};
+ghost use Rattle.reaches.specs.Reaches.{keysOf};
+ghost use Rattle.listing.specs.Listing.{listingOf};
+ghost use Rattle.tautlichen.specs.Lent.{first, lent, shortNo, over};
+ghost use Rattle.tautlichen.specs.Calls.{listText, listNo, history, drainAfter, drainText, drainNo, walkAfter, walkNo};
+
+// The first n bytes of a slice go to the start of a lent buffer.
+fn copy(to: &mut [u8], from: &[u8], n: usize)
+    requires { ⌜ (n ≤ length (now from)) × (n ≤ length (now to)) ⌝ }
+    ensures { λ r. ⌜ now (to .exit) ≡ over (take n (now (from .entry))) (now (to .entry)) ⌝ }
+{
+    let mut i: usize = 0;
+    while i < n {
+        to[i] = from[i];
+        i += 1;
+    }
+}
+
+// The same, and 14 where the buffer is too short.
+fn put(to: &mut [u8], from: &[u8], n: usize) -> u8
+    requires { ⌜ n ≤ length (now from) ⌝ }
+    ensures number { λ r. ⌜ r ≡ shortNo (take n (now (from .entry))) (now (to .entry)) ⌝ }
+    ensures bytes { λ r. ⌜ now (to .exit) ≡ lent r (over (take n (now (from .entry))) (now (to .entry))) (now (to .entry)) ⌝ }
+{
+    if to.len() < n {
+        return 14;
+    }
+    copy(to, from, n);
+    0
+}
+
+// Writes the listing of a machine after so many steps, of which so many were taken, and its length.
+fn show(m: Machine, steps: u16, taken: u16, text: &mut [u8], len: &mut u16) -> u8
+    ensures number { λ r. ⌜ r ≡ shortNo (listingOf m steps taken) (now (text .entry)) ⌝ }
+    ensures text { λ r. ⌜ now (text .exit) ≡ lent r (over (listingOf m steps taken) (now (text .entry))) (now (text .entry)) ⌝ }
+    ensures len { λ r. ⌜ now (len .exit) ≡ lent r (length (listingOf m steps taken)) (now (len .entry)) ⌝ }
+{
+    let listed = listing::listing(m, steps, taken);
+    let bytes = listed.bytes;
+    let n = listed.len;
+    let no = put(text, &bytes, n);
+    if no != 0 {
+        return no;
+    }
+    *len = n as u16;
+    0
+}
+
+// The number of a run whose answers have such room: 12 where the steps are more.
+fn run_no(answer: u8, steps: u16, room: usize) -> u8
+    ensures { λ r. ⌜ r ≡ first answer (pick (ltb room steps) 12 0) ⌝ }
+{
+    if answer != 0 {
+        return answer;
+    }
+    if room < steps as usize {
+        return 12;
+    }
+    0
+}
+
+// The machine after a book, with its steps and those taken.
+fn after(book: &[u8]) -> Ran
+    ensures { λ r. ⌜ r ≡ history (now (book .entry)) ⌝ }
+{
+    let mut answers = [0u8; 4096];
+    runs::run(book, &mut answers)
+}
+
+// Runs a book, and writes each step's number into the answers. Refused with 10, 11, 12.
+#[no_mangle]
+pub extern "C" fn tautlichen_run(book: &[u8], answers: &mut [u8]) -> u8
+    ensures number { λ r. ⌜ r ≡ runOf (now (book .entry)) (length (now (answers .entry))) .answer ⌝ }
+    ensures answers { λ r. ⌜ now (answers .exit) ≡ bufferOf (now (book .entry)) (now (answers .entry)) ⌝ }
+{
+    let ran = runs::run(book, answers);
+    ran.answer
+}
+
+// The same, with the listing in `text` and its length in `len`. Refused with 10, 11, 12, then 14.
+#[no_mangle]
+pub extern "C" fn tautlichen_list(
+    book: &[u8],
+    answers: &mut [u8],
+    text: &mut [u8],
+    len: &mut u16,
+) -> u8
+    ensures number { λ r. ⌜ r ≡ listNo (now (book .entry)) (now (answers .entry)) (now (text .entry)) ⌝ }
+    ensures answers { λ r. ⌜ now (answers .exit) ≡ lent r (bufferOf (now (book .entry)) (now (answers .entry))) (now (answers .entry)) ⌝ }
+    ensures text { λ r. ⌜ now (text .exit) ≡ lent r (over (listText (now (book .entry)) (now (answers .entry))) (now (text .entry))) (now (text .entry)) ⌝ }
+    ensures len { λ r. ⌜ now (len .exit) ≡ lent r (length (listText (now (book .entry)) (now (answers .entry)))) (now (len .entry)) ⌝ }
+{
+    // The caller's answers are written last, when it is known that nothing is refused.
+    let mut numbers = [0u8; 4096];
+    let ran = runs::run(book, &mut numbers);
+    let no = run_no(ran.answer, ran.steps, answers.len());
+    if no != 0 {
+        return no;
+    }
+    let m = ran.machine;
+    let no = show(m, ran.steps, ran.taken, text, len);
+    if no != 0 {
+        return no;
+    }
+    copy(answers, &numbers, ran.steps as usize);
+    0
+}
+
+// Drains the machine after a book: the count of steps, and the listing after it with its length. Refused with 10, 11, then 5,
+// then 14.
+#[no_mangle]
+pub extern "C" fn tautlichen_drain(
+    book: &[u8],
+    text: &mut [u8],
+    len: &mut u16,
+    count: &mut u16,
+) -> u8
+    ensures number { λ r. ⌜ r ≡ drainNo (now (book .entry)) (now (text .entry)) ⌝ }
+    ensures text { λ r. ⌜ now (text .exit) ≡ lent r (over (drainText (now (book .entry))) (now (text .entry))) (now (text .entry)) ⌝ }
+    ensures len { λ r. ⌜ now (len .exit) ≡ lent r (length (drainText (now (book .entry)))) (now (len .entry)) ⌝ }
+    ensures count { λ r. ⌜ now (count .exit) ≡ lent r (drainAfter (now (book .entry)) .count) (now (count .entry)) ⌝ }
+{
+    let ran = after(book);
+    if ran.answer != 0 {
+        return ran.answer;
+    }
+    let m = ran.machine;
+    let drained = runs::drain(m);
+    if drained.answer != 0 {
+        return drained.answer;
+    }
+    let rested = drained.machine;
+    let no = show(rested, ran.steps, ran.taken, text, len);
+    if no != 0 {
+        return no;
+    }
+    *count = drained.count;
+    0
+}
+
+// Walks back from a key in the machine after a book: the keys met, and how many. Refused with 10, 11, then 2, 13, then 14.
+#[no_mangle]
+pub extern "C" fn tautlichen_walk(book: &[u8], key: u8, keys: &mut [u8], count: &mut u8) -> u8
+    ensures number { λ r. ⌜ r ≡ walkNo (now (book .entry)) key (now (keys .entry)) ⌝ }
+    ensures keys { λ r. ⌜ now (keys .exit) ≡ lent r (over (keysOf (walkAfter (now (book .entry)) key)) (now (keys .entry))) (now (keys .entry)) ⌝ }
+    ensures count { λ r. ⌜ now (count .exit) ≡ lent r (walkAfter (now (book .entry)) key .count) (now (count .entry)) ⌝ }
+{
+    let ran = after(book);
+    if ran.answer != 0 {
+        return ran.answer;
+    }
+    let m = ran.machine;
+    let walked = walk::walk(m, key);
+    if walked.answer != 0 {
+        return walked.answer;
+    }
+    let met = walked.keys;
+    let no = put(keys, &met, walked.count as usize);
+    if no != 0 {
+        return no;
+    }
+    *count = walked.count;
+    0
+}
