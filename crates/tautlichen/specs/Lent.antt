@@ -9,7 +9,7 @@ use Rattle.machine.specs.Words.{pick}
 abbrev pub first : ℕ → ℕ → ℕ
 first n next = pick (eqb n 0) next n
 
--- what is lent is written where nothing is refused, and stays where it is
+-- a lent value: written where nothing is refused, and else as it was
 abbrev pub lent : {A : Type 0} → ℕ → A → A → A
 lent n written was = pick (eqb n 0) written was
 
