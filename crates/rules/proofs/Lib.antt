@@ -1,3 +1,6 @@
+pub mod Found
+pub mod Inside
 pub mod Kit
 pub mod Loops
+pub mod Standing
 pub mod Unbroken

@@ -16,3 +16,5 @@ pub mod Lose
 pub mod Crash
 pub mod Restart
 pub mod Step
+pub mod About
+pub mod Slots

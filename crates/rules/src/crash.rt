@@ -1,29 +1,26 @@
 // Step 15, crash: store.
+ghost use Prim.Native.Nat.{ℕ};
 ghost use mathlib.Core.Path.{_≡_};
-ghost use Rattle.machine.specs.Bounds.{Bounds};
-ghost use Rattle.rules.specs.Crash.{crashNo, crashed};
-ghost use Rattle.rules.specs.Rule.{decided};
-use crate::Recorder;
-use machine::Answered;
+ghost use Rattle.machine.specs.declared.Machine.{Machine};
+ghost use Rattle.rules.specs.Slots.{Stands, outcome};
+ghost use Rattle.rules.specs.Step.{ruleOf};
+ghost use Rattle.rules.specs.declared.Step.the-variants.{Crash};
+use crate::slots::Slots;
+use crate::slots::Tried;
 
-impl Recorder {
+impl Slots {
     // Up becomes down.
-    pub(crate) fn crash(self, store: u8) -> Answered
-        requires { ⌜ Bounds (self .machine) ⌝ }
-        ensures { λ r. ⌜ r ≡ decided (crashNo (self .machine) store) (self .machine) (crashed (self .machine) store) ⌝ }
+    pub(crate) fn crash(self) -> Tried
+        ensures { λ r. ⌜ ((m : Machine) (p : ℕ) → Stands m (Crash p) self → ruleOf m (Crash p) ≡ outcome m (Crash p) r) ⌝ }
     {
-        let mut m = self.machine;
-        if m.stores <= store {
-            return self.refused(2);
+        if !self.up {
+            return self.with(5);
         }
-        let at = store as usize;
-        if !m.up[at] {
-            return self.refused(5);
-        }
-        m.up[at] = false;
-        Answered {
-            machine: m,
+        let mut x = self;
+        x.up = false;
+        Tried {
             answer: 0,
+            slots: x,
         }
     }
 }

@@ -1,42 +1,36 @@
 // Step 13, coordinator timeout: key, role.
+ghost use Prim.Native.Nat.{ℕ};
 ghost use mathlib.Core.Path.{_≡_};
-ghost use Rattle.machine.specs.Bounds.{Bounds};
-ghost use Rattle.rules.specs.Expire.{expireNo, expired};
-ghost use Rattle.rules.specs.Rule.{decided};
-use crate::Recorder;
-use machine::Answered;
+ghost use Rattle.machine.specs.declared.Machine.{Machine};
+ghost use Rattle.rules.specs.Slots.{Stands, outcome};
+ghost use Rattle.rules.specs.Step.{ruleOf};
+ghost use Rattle.rules.specs.declared.Step.the-variants.{Expire};
+use crate::slots::Slots;
+use crate::slots::Tried;
 use machine::Entry;
 use machine::Status;
 use machine::status_number;
 
-impl Recorder {
+impl Slots {
     // Waiting becomes to-send.
-    pub(crate) fn expire(self, key: u8, role: u8) -> Answered
-        requires { ⌜ Bounds (self .machine) ⌝ }
-        ensures { λ r. ⌜ r ≡ decided (expireNo (self .machine) key role) (self .machine) (expired (self .machine) key role) ⌝ }
+    pub(crate) fn expire(self) -> Tried
+        ensures { λ r. ⌜ ((m : Machine) (k role : ℕ) → Stands m (Expire k role) self → ruleOf m (Expire k role) ≡ outcome m (Expire k role) r) ⌝ }
     {
-        let mut m = self.machine;
-        if m.made <= key {
-            return self.refused(2);
-        }
-        if 2 <= role {
-            return self.refused(2);
-        }
-        let v = key as usize * 2 + role as usize;
-        let e = m.entries[v];
+        let e = self.entry;
         let s = e.status;
         if status_number(s) != 2 {
-            return self.refused(7);
+            return self.with(7);
         }
         let entry = Entry {
             status: Status::ToSend,
             destination: e.destination,
             own: e.own,
         };
-        m.entries[v] = entry;
-        Answered {
-            machine: m,
+        let mut x = self;
+        x.entry = entry;
+        Tried {
             answer: 0,
+            slots: x,
         }
     }
 }

@@ -7,6 +7,7 @@ ghost use Rattle.rules.specs.Step.{ruleOf, stepOf};
 use machine::Answered;
 use machine::Machine;
 
+mod about;
 mod crash;
 mod expire;
 mod lose;
@@ -18,12 +19,14 @@ mod rule;
 mod send;
 mod send_record;
 mod send_update;
+mod slots;
 mod take_ack;
 mod take_record;
 mod take_repair;
 mod take_uack;
 mod take_update;
 mod timeout;
+mod touch;
 
 // A step is one of sixteen kinds, each with its own fields.
 pub enum Step {
@@ -137,26 +140,26 @@ impl Recorder {
                 word,
                 causes,
             } => self.send(from, to, own, word, causes),
-            Step::Receive { key } => self.receive(key),
+            Step::Receive { key } => self.touch(s),
             Step::PreCheck { actor } => self.pre_check(actor),
-            Step::SendRecord { actor } => self.send_record(actor),
-            Step::Timeout { actor, store } => self.timeout(actor, store),
-            Step::TakeRecord { store, key, role } => self.take_record(store, key, role),
-            Step::TakeAck { store, key, role } => self.take_ack(store, key, role),
-            Step::PostCheck { actor } => self.post_check(actor),
-            Step::TakeRepair { key, role } => self.take_repair(key, role),
-            Step::SendUpdate { key, role } => self.send_update(key, role),
-            Step::TakeUpdate { store, key, role } => self.take_update(store, key, role),
-            Step::TakeUack { store, key, role } => self.take_uack(store, key, role),
-            Step::Expire { key, role } => self.expire(key, role),
+            Step::SendRecord { actor } => self.touch(s),
+            Step::Timeout { actor, store } => self.touch(s),
+            Step::TakeRecord { store, key, role } => self.touch(s),
+            Step::TakeAck { store, key, role } => self.touch(s),
+            Step::PostCheck { actor } => self.touch(s),
+            Step::TakeRepair { key, role } => self.touch(s),
+            Step::SendUpdate { key, role } => self.touch(s),
+            Step::TakeUpdate { store, key, role } => self.touch(s),
+            Step::TakeUack { store, key, role } => self.touch(s),
+            Step::Expire { key, role } => self.touch(s),
             Step::Lose {
                 what,
                 store,
                 key,
                 role,
-            } => self.lose(what, store, key, role),
-            Step::Crash { store } => self.crash(store),
-            Step::Restart { store } => self.restart(store),
+            } => self.touch(s),
+            Step::Crash { store } => self.touch(s),
+            Step::Restart { store } => self.touch(s),
         }
     }
 }

@@ -1,44 +1,40 @@
 // Step 8, post-check: actor.
-ghost use Prim.Native.Nat.{_<_};
+ghost use Prim.Native.Nat.{ℕ, _<_};
 ghost use mathlib.Core.Path.{_≡_};
-ghost use Rattle.machine.specs.Bounds.{Bounds};
-ghost use Rattle.rules.specs.PostCheck.{askedRepair, left, postCheckNo, postChecked};
-ghost use Rattle.rules.specs.Rule.{decided};
-use crate::Recorder;
-use machine::Answered;
+ghost use Rattle.machine.specs.declared.Machine.{Machine};
+ghost use Rattle.rules.specs.Slots.{Stands, outcome};
+ghost use Rattle.rules.specs.Step.{ruleOf};
+ghost use Rattle.rules.specs.PostCheck.{askedRepair, left};
+ghost use Rattle.rules.specs.declared.Step.the-variants.{PostCheck};
+use crate::slots::Slots;
+use crate::slots::Tried;
 use machine::Queue;
 use machine::Repair;
 use machine::View;
 
-impl Recorder {
+impl Slots {
     // Head in phase 4. If changed, a repair goes off. The head leaves the queue, phase 5.
-    pub(crate) fn post_check(self, actor: u8) -> Answered
-        requires { ⌜ Bounds (self .machine) ⌝ }
-        ensures { λ r. ⌜ r ≡ decided (postCheckNo (self .machine) actor) (self .machine) (postChecked (self .machine) actor) ⌝ }
+    pub(crate) fn post_check(self) -> Tried
+        ensures { λ r. ⌜ ((m : Machine) (a : ℕ) → Stands m (PostCheck a) self → ruleOf m (PostCheck a) ≡ outcome m (PostCheck a) r) ⌝ }
     {
-        let mut m = self.machine;
-        if m.actors <= actor {
-            return self.refused(2);
-        }
-        let a = actor as usize;
-        let q = m.queues[a];
+        let q = self.queue;
         if q.len == 0 {
-            return self.refused(7);
+            return self.with(7);
         }
-        let head = q.views[0] as usize;
-        let mut w = m.views[head];
+        let mut w = self.view;
         if w.phase != 4 {
-            return self.refused(7);
+            return self.with(7);
         }
-        let repair = asked_repair(m.repairs[head], w);
+        let repair = asked_repair(self.repair, w);
         let queue = left(q);
         w.phase = 5;
-        m.views[head] = w;
-        m.queues[a] = queue;
-        m.repairs[head] = repair;
-        Answered {
-            machine: m,
+        let mut x = self;
+        x.view = w;
+        x.queue = queue;
+        x.repair = repair;
+        Tried {
             answer: 0,
+            slots: x,
         }
     }
 }

@@ -1,37 +1,31 @@
 // Step 2, receive: key.
+ghost use Prim.Native.Nat.{ℕ, _<_};
 ghost use mathlib.Core.Path.{_≡_};
-ghost use Rattle.machine.specs.Bounds.{Bounds};
-ghost use Rattle.rules.specs.Receive.{receiveNo, receivedOf};
-ghost use Rattle.rules.specs.Rule.{decided};
-use crate::Recorder;
+ghost use Rattle.machine.specs.declared.Machine.{Machine};
+ghost use Rattle.rules.specs.Slots.{Stands, outcome};
+ghost use Rattle.rules.specs.Step.{ruleOf};
+ghost use Rattle.rules.specs.declared.Step.the-variants.{Receive};
 use crate::send::awaited_view;
 use crate::send::joined;
-use machine::Answered;
+use crate::slots::Slots;
+use crate::slots::Tried;
 use machine::Message;
 
-impl Recorder {
+impl Slots {
     // Not yet received. The receiver's record joins the queue, and the message is no longer in flight.
-    pub(crate) fn receive(self, key: u8) -> Answered
-        requires { ⌜ Bounds (self .machine) ⌝ }
-        ensures { λ r. ⌜ r ≡ decided (receiveNo (self .machine) key) (self .machine) (receivedOf (self .machine) key) ⌝ }
+    pub(crate) fn receive(self) -> Tried
+        requires { ⌜ (self .number < 32) × (self .view .phase ≡ 0 → self .queue .len < 16) ⌝ }
+        ensures { λ r. ⌜ ((m : Machine) (k : ℕ) → Stands m (Receive k) self → ruleOf m (Receive k) ≡ outcome m (Receive k) r) ⌝ }
     {
-        let mut m = self.machine;
-        if m.made <= key {
-            return self.refused(2);
-        }
-        let k = key as usize;
-        let v = k * 2 + 1;
-        let w = m.views[v];
+        let w = self.view;
         if w.phase != 0 {
-            return self.refused(7);
+            return self.with(7);
         }
-        let a = w.actor as usize;
-        let home = m.homes[a];
-        let sent = m.messages[k];
-        let queue = joined(m.queues[a], key * 2 + 1);
+        let sent = self.message;
+        let queue = joined(self.queue, self.number as u8);
         let mut view = awaited_view(w.actor);
         view.phase = 1;
-        view.store = home;
+        view.store = self.home;
         view.viewlink = sent.own;
         view.word = sent.word;
         let nothing = Message {
@@ -39,12 +33,13 @@ impl Recorder {
             own: 0,
             word: 0,
         };
-        m.views[v] = view;
-        m.queues[a] = queue;
-        m.messages[k] = nothing;
-        Answered {
-            machine: m,
+        let mut x = self;
+        x.view = view;
+        x.queue = queue;
+        x.message = nothing;
+        Tried {
             answer: 0,
+            slots: x,
         }
     }
 }

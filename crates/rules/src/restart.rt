@@ -1,29 +1,26 @@
 // Step 16, restart: store.
+ghost use Prim.Native.Nat.{ℕ};
 ghost use mathlib.Core.Path.{_≡_};
-ghost use Rattle.machine.specs.Bounds.{Bounds};
-ghost use Rattle.rules.specs.Restart.{restartNo, restarted};
-ghost use Rattle.rules.specs.Rule.{decided};
-use crate::Recorder;
-use machine::Answered;
+ghost use Rattle.machine.specs.declared.Machine.{Machine};
+ghost use Rattle.rules.specs.Slots.{Stands, outcome};
+ghost use Rattle.rules.specs.Step.{ruleOf};
+ghost use Rattle.rules.specs.declared.Step.the-variants.{Restart};
+use crate::slots::Slots;
+use crate::slots::Tried;
 
-impl Recorder {
+impl Slots {
     // Down becomes up.
-    pub(crate) fn restart(self, store: u8) -> Answered
-        requires { ⌜ Bounds (self .machine) ⌝ }
-        ensures { λ r. ⌜ r ≡ decided (restartNo (self .machine) store) (self .machine) (restarted (self .machine) store) ⌝ }
+    pub(crate) fn restart(self) -> Tried
+        ensures { λ r. ⌜ ((m : Machine) (p : ℕ) → Stands m (Restart p) self → ruleOf m (Restart p) ≡ outcome m (Restart p) r) ⌝ }
     {
-        let mut m = self.machine;
-        if m.stores <= store {
-            return self.refused(2);
+        if self.up {
+            return self.with(6);
         }
-        let at = store as usize;
-        if m.up[at] {
-            return self.refused(6);
-        }
-        m.up[at] = true;
-        Answered {
-            machine: m,
+        let mut x = self;
+        x.up = true;
+        Tried {
             answer: 0,
+            slots: x,
         }
     }
 }

@@ -1,39 +1,35 @@
 // Step 4, send record: actor.
+ghost use Prim.Native.Nat.{ℕ};
 ghost use mathlib.Core.Path.{_≡_};
-ghost use Rattle.machine.specs.Bounds.{Bounds};
-ghost use Rattle.rules.specs.Rule.{decided};
-ghost use Rattle.rules.specs.SendRecord.{sendRecordNo, recordSent};
-use crate::Recorder;
+ghost use Rattle.machine.specs.declared.Machine.{Machine};
+ghost use Rattle.rules.specs.Slots.{Stands, outcome};
+ghost use Rattle.rules.specs.Step.{ruleOf};
+ghost use Rattle.rules.specs.declared.Step.the-variants.{SendRecord};
 use crate::rule::one_more;
-use machine::Answered;
+use crate::slots::Slots;
+use crate::slots::Tried;
 
-impl Recorder {
+impl Slots {
     // Head in phase 2. One record copy to its store. Phase 3.
-    pub(crate) fn send_record(self, actor: u8) -> Answered
-        requires { ⌜ Bounds (self .machine) ⌝ }
-        ensures { λ r. ⌜ r ≡ decided (sendRecordNo (self .machine) actor) (self .machine) (recordSent (self .machine) actor) ⌝ }
+    pub(crate) fn send_record(self) -> Tried
+        ensures { λ r. ⌜ ((m : Machine) (a : ℕ) → Stands m (SendRecord a) self → ruleOf m (SendRecord a) ≡ outcome m (SendRecord a) r) ⌝ }
     {
-        let mut m = self.machine;
-        if m.actors <= actor {
-            return self.refused(2);
-        }
-        let q = m.queues[actor as usize];
+        let q = self.queue;
         if q.len == 0 {
-            return self.refused(7);
+            return self.with(7);
         }
-        let head = q.views[0] as usize;
-        let mut w = m.views[head];
+        let mut w = self.view;
         if w.phase != 2 {
-            return self.refused(7);
+            return self.with(7);
         }
-        let at = w.store as usize * 32 + head;
-        let copies = one_more(m.records[at]);
         w.phase = 3;
-        m.views[head] = w;
-        m.records[at] = copies;
-        Answered {
-            machine: m,
+        let records = one_more(self.records);
+        let mut x = self;
+        x.view = w;
+        x.records = records;
+        Tried {
             answer: 0,
+            slots: x,
         }
     }
 }

@@ -1,46 +1,39 @@
 // Step 10, send update: key, role.
+ghost use Prim.Native.Nat.{ℕ};
 ghost use mathlib.Core.Path.{_≡_};
-ghost use Rattle.machine.specs.Bounds.{Bounds};
-ghost use Rattle.rules.specs.Rule.{decided};
-ghost use Rattle.rules.specs.SendUpdate.{sendUpdateNo, updateSent};
-use crate::Recorder;
+ghost use Rattle.machine.specs.declared.Machine.{Machine};
+ghost use Rattle.rules.specs.Slots.{Stands, outcome};
+ghost use Rattle.rules.specs.Step.{ruleOf};
+ghost use Rattle.rules.specs.declared.Step.the-variants.{SendUpdate};
 use crate::rule::one_more;
-use machine::Answered;
+use crate::slots::Slots;
+use crate::slots::Tried;
 use machine::Entry;
 use machine::Status;
 use machine::status_number;
 
-impl Recorder {
+impl Slots {
     // To-send. One update copy to the destination; waiting.
-    pub(crate) fn send_update(self, key: u8, role: u8) -> Answered
-        requires { ⌜ Bounds (self .machine) ⌝ }
-        ensures { λ r. ⌜ r ≡ decided (sendUpdateNo (self .machine) key role) (self .machine) (updateSent (self .machine) key role) ⌝ }
+    pub(crate) fn send_update(self) -> Tried
+        ensures { λ r. ⌜ ((m : Machine) (k role : ℕ) → Stands m (SendUpdate k role) self → ruleOf m (SendUpdate k role) ≡ outcome m (SendUpdate k role) r) ⌝ }
     {
-        let mut m = self.machine;
-        if m.made <= key {
-            return self.refused(2);
-        }
-        if 2 <= role {
-            return self.refused(2);
-        }
-        let v = key as usize * 2 + role as usize;
-        let e = m.entries[v];
+        let e = self.entry;
         let s = e.status;
         if status_number(s) != 1 {
-            return self.refused(7);
+            return self.with(7);
         }
-        let at = e.destination as usize * 32 + v;
-        let copies = one_more(m.updates[at]);
         let entry = Entry {
             status: Status::Waiting,
             destination: e.destination,
             own: e.own,
         };
-        m.entries[v] = entry;
-        m.updates[at] = copies;
-        Answered {
-            machine: m,
+        let updates = one_more(self.updates);
+        let mut x = self;
+        x.entry = entry;
+        x.updates = updates;
+        Tried {
             answer: 0,
+            slots: x,
         }
     }
 }

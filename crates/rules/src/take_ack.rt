@@ -1,59 +1,47 @@
 // Step 7, actor takes ack: store, key, role.
-ghost use mathlib.Core.Bool.{_&&_, not};
+ghost use Prim.Native.Nat.{ℕ};
 ghost use mathlib.Core.Path.{_≡_};
+ghost use Rattle.machine.specs.declared.Machine.{Machine};
+ghost use Rattle.rules.specs.Slots.{Stands, outcome};
+ghost use Rattle.rules.specs.Step.{ruleOf};
+ghost use mathlib.Core.Bool.{_&&_, not};
 ghost use lib.Dec.{eqb};
 ghost use lib.ListN.{getD};
-ghost use Rattle.machine.specs.Bounds.{Bounds};
 ghost use Rattle.machine.specs.Words.{pick};
-ghost use Rattle.rules.specs.Rule.{decided};
 ghost use Rattle.rules.specs.Rule.{phased};
-ghost use Rattle.rules.specs.TakeAck.{takeAckNo, ackTaken};
-use crate::Recorder;
-use machine::Answered;
+ghost use Rattle.rules.specs.declared.Step.the-variants.{TakeAck};
+use crate::slots::Slots;
+use crate::slots::Tried;
 use machine::Queue;
 use machine::View;
 
-impl Recorder {
+impl Slots {
     // A copy in flight. The copy goes; it counts for its queue's head alone, from the current store.
-    pub(crate) fn take_ack(self, store: u8, key: u8, role: u8) -> Answered
-        requires { ⌜ Bounds (self .machine) ⌝ }
-        ensures { λ r. ⌜ r ≡ decided (takeAckNo (self .machine) store key role) (self .machine) (ackTaken (self .machine) store key role) ⌝ }
+    pub(crate) fn take_ack(self) -> Tried
+        ensures { λ r. ⌜ ((m : Machine) (p k role : ℕ) → Stands m (TakeAck p k role) self → ruleOf m (TakeAck p k role) ≡ outcome m (TakeAck p k role) r) ⌝ }
     {
-        let mut m = self.machine;
-        if m.stores <= store {
-            return self.refused(2);
+        if self.acks == 0 {
+            return self.with(7);
         }
-        if m.made <= key {
-            return self.refused(2);
-        }
-        if 2 <= role {
-            return self.refused(2);
-        }
-        let v = key as usize * 2 + role as usize;
-        let at = store as usize * 32 + v;
-        let copies = m.acks[at];
-        if copies == 0 {
-            return self.refused(7);
-        }
-        let w = m.views[v];
-        let view = acked(m.queues[w.actor as usize], w, store, key * 2 + role);
-        m.views[v] = view;
-        m.acks[at] = copies - 1;
-        Answered {
-            machine: m,
+        let view = acked(self.queue, self.view, self.store, self.number);
+        let mut x = self;
+        x.view = view;
+        x.acks -= 1;
+        Tried {
             answer: 0,
+            slots: x,
         }
     }
 }
 
 // Phase 4, if the view is its queue's head, in phase 3, and the store is its current one.
-fn acked(q: Queue, w: View, store: u8, v: u8) -> View
+fn acked(q: Queue, w: View, store: u8, v: usize) -> View
     ensures { λ r. ⌜ r ≡ pick ((not (eqb (q .len) 0) && eqb (getD (q .views) 0 0) v) && eqb (w .phase) 3 && eqb (w .store) store) (phased 4 w) w ⌝ }
 {
     if q.len == 0 {
         return w;
     }
-    if q.views[0] != v {
+    if q.views[0] as usize != v {
         return w;
     }
     if w.phase != 3 {

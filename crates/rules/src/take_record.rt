@@ -1,55 +1,46 @@
 // Step 6, store takes record: store, key, role.
-ghost use Prim.Native.Nat.{_<_};
+ghost use Prim.Native.Nat.{ℕ, _<_};
 ghost use mathlib.Core.Path.{_≡_};
-ghost use Rattle.machine.specs.Bounds.{Bounds};
-ghost use Rattle.rules.specs.Rule.{decided};
-ghost use Rattle.rules.specs.TakeRecord.{takeRecordNo, recordTaken, writtenContents, writtenLinks, writtenViewlink};
-use crate::Recorder;
+ghost use Rattle.machine.specs.declared.Machine.{Machine};
+ghost use Rattle.rules.specs.Slots.{Stands, outcome};
+ghost use Rattle.rules.specs.Step.{ruleOf};
+ghost use Rattle.rules.specs.TakeRecord.{writtenContents, writtenLinks, writtenViewlink};
+ghost use Rattle.rules.specs.declared.Step.the-variants.{TakeRecord};
 use crate::rule::one_more;
-use machine::Answered;
+use crate::slots::Slots;
+use crate::slots::Tried;
 use machine::Contents;
 use machine::Links;
 use machine::View;
 
-impl Recorder {
+impl Slots {
     // Store up, a copy in flight. The copy goes; contents and viewlink are written only where none were. One ack copy.
-    pub(crate) fn take_record(self, store: u8, key: u8, role: u8) -> Answered
-        requires { ⌜ Bounds (self .machine) ⌝ }
-        ensures { λ r. ⌜ r ≡ decided (takeRecordNo (self .machine) store key role) (self .machine) (recordTaken (self .machine) store key role) ⌝ }
+    pub(crate) fn take_record(self) -> Tried
+        requires { ⌜ self .view .viewlink < 8 ⌝ }
+        ensures { λ r. ⌜ ((m : Machine) (p k role : ℕ) → Stands m (TakeRecord p k role) self → ruleOf m (TakeRecord p k role) ≡ outcome m (TakeRecord p k role) r) ⌝ }
     {
-        let mut m = self.machine;
-        if m.stores <= store {
-            return self.refused(2);
+        if !self.up {
+            return self.with(5);
         }
-        if m.made <= key {
-            return self.refused(2);
+        if self.records == 0 {
+            return self.with(7);
         }
-        if 2 <= role {
-            return self.refused(2);
-        }
-        if !m.up[store as usize] {
-            return self.refused(5);
-        }
-        let v = key as usize * 2 + role as usize;
-        let at = store as usize * 32 + v;
-        if m.records[at] == 0 {
-            return self.refused(7);
-        }
-        let sender = store as usize * 16 + key as usize;
-        let w = m.views[v];
-        let held = m.contents[at];
+        let w = self.view;
+        let held = self.contents;
+        let role = (self.number % 2) as u8;
         let contents = written_contents(held, w);
-        let links = written_links(role, held, w, m.links[sender]);
-        let viewlink = written_viewlink(m.viewlinks[at], w);
-        let acks = one_more(m.acks[at]);
-        m.records[at] -= 1;
-        m.acks[at] = acks;
-        m.contents[at] = contents;
-        m.links[sender] = links;
-        m.viewlinks[at] = viewlink;
-        Answered {
-            machine: m,
+        let links = written_links(role, held, w, self.links);
+        let viewlink = written_viewlink(self.viewlink, w);
+        let acks = one_more(self.acks);
+        let mut x = self;
+        x.records -= 1;
+        x.acks = acks;
+        x.contents = contents;
+        x.links = links;
+        x.viewlink = viewlink;
+        Tried {
             answer: 0,
+            slots: x,
         }
     }
 }

@@ -1,48 +1,41 @@
 // Step 9, coordinator takes repair: key, role.
+ghost use Prim.Native.Nat.{ℕ};
 ghost use mathlib.Core.Path.{_≡_};
-ghost use Rattle.machine.specs.Bounds.{Bounds};
-ghost use Rattle.rules.specs.Rule.{decided};
-ghost use Rattle.rules.specs.TakeRepair.{redirectedEntry, repairTaken, repairedEntry, takeRepairNo};
-use crate::Recorder;
-use machine::Answered;
+ghost use Rattle.machine.specs.declared.Machine.{Machine};
+ghost use Rattle.rules.specs.Slots.{Stands, outcome};
+ghost use Rattle.rules.specs.Step.{ruleOf};
+ghost use Rattle.rules.specs.TakeRepair.{redirectedEntry, repairedEntry};
+ghost use Rattle.rules.specs.declared.Step.the-variants.{TakeRepair};
+use crate::slots::Slots;
+use crate::slots::Tried;
 use machine::Entry;
 use machine::Repair;
 use machine::Status;
 use machine::status_number;
 
-impl Recorder {
+impl Slots {
     // One in flight. If the other role has an entry, each entry's destination is the other's own store; both are to-send.
-    pub(crate) fn take_repair(self, key: u8, role: u8) -> Answered
-        requires { ⌜ Bounds (self .machine) ⌝ }
-        ensures { λ r. ⌜ r ≡ decided (takeRepairNo (self .machine) key role) (self .machine) (repairTaken (self .machine) key role) ⌝ }
+    pub(crate) fn take_repair(self) -> Tried
+        ensures { λ r. ⌜ ((m : Machine) (k role : ℕ) → Stands m (TakeRepair k role) self → ruleOf m (TakeRepair k role) ≡ outcome m (TakeRepair k role) r) ⌝ }
     {
-        let mut m = self.machine;
-        if m.made <= key {
-            return self.refused(2);
-        }
-        if 2 <= role {
-            return self.refused(2);
-        }
-        let v = key as usize * 2 + role as usize;
-        let sent = m.repairs[v];
+        let sent = self.repair;
         if !sent.flying {
-            return self.refused(7);
+            return self.with(7);
         }
-        let o = key as usize * 2 + (1 - role as usize);
-        let other = m.entries[o];
-        let entry = repaired_entry(sent, other);
-        let opposite = redirected_entry(sent, other);
+        let entry = repaired_entry(sent, self.other);
+        let other = redirected_entry(sent, self.other);
         let nothing = Repair {
             flying: false,
             destination: 0,
             own: 0,
         };
-        m.entries[v] = entry;
-        m.entries[o] = opposite;
-        m.repairs[v] = nothing;
-        Answered {
-            machine: m,
+        let mut x = self;
+        x.entry = entry;
+        x.other = other;
+        x.repair = nothing;
+        Tried {
             answer: 0,
+            slots: x,
         }
     }
 }

@@ -1,42 +1,32 @@
 // Step 12, coordinator takes uack: store, key, role.
+ghost use Prim.Native.Nat.{ℕ};
 ghost use mathlib.Core.Path.{_≡_};
-ghost use Rattle.machine.specs.Bounds.{Bounds};
-ghost use Rattle.rules.specs.Rule.{decided};
-ghost use Rattle.rules.specs.TakeUack.{finishedEntry, takeUackNo, uackTaken};
-use crate::Recorder;
-use machine::Answered;
+ghost use Rattle.machine.specs.declared.Machine.{Machine};
+ghost use Rattle.rules.specs.Slots.{Stands, outcome};
+ghost use Rattle.rules.specs.Step.{ruleOf};
+ghost use Rattle.rules.specs.TakeUack.{finishedEntry};
+ghost use Rattle.rules.specs.declared.Step.the-variants.{TakeUack};
+use crate::slots::Slots;
+use crate::slots::Tried;
 use machine::Entry;
 use machine::Status;
 use machine::status_number;
 
-impl Recorder {
+impl Slots {
     // A copy in flight; it goes. If waiting and the store is the destination: done.
-    pub(crate) fn take_uack(self, store: u8, key: u8, role: u8) -> Answered
-        requires { ⌜ Bounds (self .machine) ⌝ }
-        ensures { λ r. ⌜ r ≡ decided (takeUackNo (self .machine) store key role) (self .machine) (uackTaken (self .machine) store key role) ⌝ }
+    pub(crate) fn take_uack(self) -> Tried
+        ensures { λ r. ⌜ ((m : Machine) (p k role : ℕ) → Stands m (TakeUack p k role) self → ruleOf m (TakeUack p k role) ≡ outcome m (TakeUack p k role) r) ⌝ }
     {
-        let mut m = self.machine;
-        if m.stores <= store {
-            return self.refused(2);
+        if self.uacks == 0 {
+            return self.with(7);
         }
-        if m.made <= key {
-            return self.refused(2);
-        }
-        if 2 <= role {
-            return self.refused(2);
-        }
-        let v = key as usize * 2 + role as usize;
-        let at = store as usize * 32 + v;
-        let copies = m.uacks[at];
-        if copies == 0 {
-            return self.refused(7);
-        }
-        let entry = finished_entry(store, m.entries[v]);
-        m.entries[v] = entry;
-        m.uacks[at] = copies - 1;
-        Answered {
-            machine: m,
+        let entry = finished_entry(self.store, self.entry);
+        let mut x = self;
+        x.entry = entry;
+        x.uacks -= 1;
+        Tried {
             answer: 0,
+            slots: x,
         }
     }
 }

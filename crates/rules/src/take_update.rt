@@ -1,46 +1,35 @@
 // Step 11, store takes update: store, key, role.
+ghost use Prim.Native.Nat.{ℕ, _<_};
 ghost use mathlib.Core.Path.{_≡_};
-ghost use Rattle.machine.specs.Bounds.{Bounds};
-ghost use Rattle.rules.specs.Rule.{decided};
-ghost use Rattle.rules.specs.TakeUpdate.{takeUpdateNo, updateTaken};
-use crate::Recorder;
+ghost use Rattle.machine.specs.declared.Machine.{Machine};
+ghost use Rattle.rules.specs.Slots.{Stands, outcome};
+ghost use Rattle.rules.specs.Step.{ruleOf};
+ghost use Rattle.rules.specs.declared.Step.the-variants.{TakeUpdate};
 use crate::rule::one_more;
-use machine::Answered;
+use crate::slots::Slots;
+use crate::slots::Tried;
 
-impl Recorder {
+impl Slots {
     // Store up, a copy in flight. The copy goes; the opposite view's link there becomes the entry's own store. One uack copy.
-    pub(crate) fn take_update(self, store: u8, key: u8, role: u8) -> Answered
-        requires { ⌜ Bounds (self .machine) ⌝ }
-        ensures { λ r. ⌜ r ≡ decided (takeUpdateNo (self .machine) store key role) (self .machine) (updateTaken (self .machine) store key role) ⌝ }
+    pub(crate) fn take_update(self) -> Tried
+        requires { ⌜ self .entry .own < 8 ⌝ }
+        ensures { λ r. ⌜ ((m : Machine) (p k role : ℕ) → Stands m (TakeUpdate p k role) self → ruleOf m (TakeUpdate p k role) ≡ outcome m (TakeUpdate p k role) r) ⌝ }
     {
-        let mut m = self.machine;
-        if m.stores <= store {
-            return self.refused(2);
+        if !self.up {
+            return self.with(5);
         }
-        if m.made <= key {
-            return self.refused(2);
+        if self.updates == 0 {
+            return self.with(7);
         }
-        if 2 <= role {
-            return self.refused(2);
-        }
-        if !m.up[store as usize] {
-            return self.refused(5);
-        }
-        let v = key as usize * 2 + role as usize;
-        let at = store as usize * 32 + v;
-        let copies = m.updates[at];
-        if copies == 0 {
-            return self.refused(7);
-        }
-        let opposite = store as usize * 32 + (key as usize * 2 + (1 - role as usize));
-        let e = m.entries[v];
-        let uacks = one_more(m.uacks[at]);
-        m.updates[at] = copies - 1;
-        m.viewlinks[opposite] = e.own + 1;
-        m.uacks[at] = uacks;
-        Answered {
-            machine: m,
+        let e = self.entry;
+        let uacks = one_more(self.uacks);
+        let mut x = self;
+        x.updates -= 1;
+        x.across = e.own + 1;
+        x.uacks = uacks;
+        Tried {
             answer: 0,
+            slots: x,
         }
     }
 }

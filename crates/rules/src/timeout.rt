@@ -1,47 +1,41 @@
 // Step 5, timeout: actor, store.
+ghost use Prim.Native.Nat.{ℕ, _<_};
 ghost use mathlib.Core.Path.{_≡_};
-ghost use Rattle.machine.specs.Bounds.{Bounds};
-ghost use Rattle.rules.specs.Rule.{decided};
-ghost use Rattle.rules.specs.Timeout.{timeoutNo, timedOut};
-use crate::Recorder;
-use machine::Answered;
+ghost use Rattle.machine.specs.declared.Machine.{Machine};
+ghost use Rattle.rules.specs.Slots.{Stands, outcome};
+ghost use Rattle.rules.specs.Step.{ruleOf};
+ghost use Rattle.rules.specs.declared.Step.the-variants.{Timeout};
+use crate::slots::Slots;
+use crate::slots::Tried;
 
-impl Recorder {
+impl Slots {
     // Head in phase 3; the store is in the list and not the current one. It becomes current, changed is set, phase 2.
-    pub(crate) fn timeout(self, actor: u8, store: u8) -> Answered
-        requires { ⌜ Bounds (self .machine) ⌝ }
-        ensures { λ r. ⌜ r ≡ decided (timeoutNo (self .machine) actor store) (self .machine) (timedOut (self .machine) actor store) ⌝ }
+    pub(crate) fn timeout(self) -> Tried
+        requires { ⌜ self .store < 8 ⌝ }
+        ensures { λ r. ⌜ ((m : Machine) (a p : ℕ) → Stands m (Timeout a p) self → ruleOf m (Timeout a p) ≡ outcome m (Timeout a p) r) ⌝ }
     {
-        let mut m = self.machine;
-        if m.actors <= actor {
-            return self.refused(2);
-        }
-        if m.stores <= store {
-            return self.refused(2);
-        }
-        let a = actor as usize;
-        let q = m.queues[a];
+        let q = self.queue;
         if q.len == 0 {
-            return self.refused(7);
+            return self.with(7);
         }
-        let head = q.views[0] as usize;
-        let mut w = m.views[head];
+        let mut w = self.view;
         if w.phase != 3 {
-            return self.refused(7);
+            return self.with(7);
         }
-        if (m.lists[a] >> store) % 2 != 1 {
-            return self.refused(8);
+        if (self.list >> self.store) % 2 != 1 {
+            return self.with(8);
         }
-        if w.store == store {
-            return self.refused(8);
+        if w.store == self.store {
+            return self.with(8);
         }
-        w.store = store;
+        w.store = self.store;
         w.changed = true;
         w.phase = 2;
-        m.views[head] = w;
-        Answered {
-            machine: m,
+        let mut x = self;
+        x.view = w;
+        Tried {
             answer: 0,
+            slots: x,
         }
     }
 }

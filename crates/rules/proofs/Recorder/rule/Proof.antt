@@ -1,5 +1,5 @@
--- `rule` meets its contract: each arm's method promises the rule of that kind. Assumes nothing.
-use mathlib.Core.Path.{_∙_, ap, sym}
+-- `rule` meets its contract: send and pre-check promise their rules, and no other kind looks back. Assumes nothing.
+use mathlib.Core.Path.{refl, _∙_, ap, sym}
 use borrow.Author.Needs.{needs}
 use Rattle.rules.specs.Step.{ruleOf}
 use Rattle.rules.proofs.Recorder.rule.Statement.{statement}
@@ -14,8 +14,8 @@ send-requires c κs = search needs
 enum-known-s-2 : tie.Need-enum-known-s-2
 enum-known-s-2 c = search needs
 
-receive-requires : tie.Need-receive-requires
-receive-requires c κs = search needs
+touch-requires : tie.Need-touch-requires
+touch-requires c κs = (c .before .before .before .pre, refl)
 
 enum-known-s-3 : tie.Need-enum-known-s-3
 enum-known-s-3 c = search needs
@@ -26,144 +26,130 @@ pre-check-requires c κs = search needs
 enum-known-s-4 : tie.Need-enum-known-s-4
 enum-known-s-4 c = search needs
 
-send-record-requires : tie.Need-send-record-requires
-send-record-requires c κs = search needs
+touch-requires-2 : tie.Need-touch-requires-2
+touch-requires-2 c κs = (c .before .before .before .pre, refl)
 
 enum-known-s-5 : tie.Need-enum-known-s-5
 enum-known-s-5 c = search needs
 
-timeout-requires : tie.Need-timeout-requires
-timeout-requires c κs = search needs
+touch-requires-3 : tie.Need-touch-requires-3
+touch-requires-3 c κs = (c .before .before .before .pre, refl)
 
 enum-known-s-6 : tie.Need-enum-known-s-6
 enum-known-s-6 c = search needs
 
-take-record-requires : tie.Need-take-record-requires
-take-record-requires c κs = search needs
+touch-requires-4 : tie.Need-touch-requires-4
+touch-requires-4 c κs = (c .before .before .before .pre, refl)
 
 enum-known-s-7 : tie.Need-enum-known-s-7
 enum-known-s-7 c = search needs
 
-take-ack-requires : tie.Need-take-ack-requires
-take-ack-requires c κs = search needs
+touch-requires-5 : tie.Need-touch-requires-5
+touch-requires-5 c κs = (c .before .before .before .pre, refl)
 
 enum-known-s-8 : tie.Need-enum-known-s-8
 enum-known-s-8 c = search needs
 
-post-check-requires : tie.Need-post-check-requires
-post-check-requires c κs = search needs
+touch-requires-6 : tie.Need-touch-requires-6
+touch-requires-6 c κs = (c .before .before .before .pre, refl)
 
 enum-known-s-9 : tie.Need-enum-known-s-9
 enum-known-s-9 c = search needs
 
-take-repair-requires : tie.Need-take-repair-requires
-take-repair-requires c κs = search needs
+touch-requires-7 : tie.Need-touch-requires-7
+touch-requires-7 c κs = (c .before .before .before .pre, refl)
 
 enum-known-s-10 : tie.Need-enum-known-s-10
 enum-known-s-10 c = search needs
 
-send-update-requires : tie.Need-send-update-requires
-send-update-requires c κs = search needs
+touch-requires-8 : tie.Need-touch-requires-8
+touch-requires-8 c κs = (c .before .before .before .pre, refl)
 
 enum-known-s-11 : tie.Need-enum-known-s-11
 enum-known-s-11 c = search needs
 
-take-update-requires : tie.Need-take-update-requires
-take-update-requires c κs = search needs
+touch-requires-9 : tie.Need-touch-requires-9
+touch-requires-9 c κs = (c .before .before .before .pre, refl)
 
 enum-known-s-12 : tie.Need-enum-known-s-12
 enum-known-s-12 c = search needs
 
-take-uack-requires : tie.Need-take-uack-requires
-take-uack-requires c κs = search needs
+touch-requires-10 : tie.Need-touch-requires-10
+touch-requires-10 c κs = (c .before .before .before .pre, refl)
 
 enum-known-s-13 : tie.Need-enum-known-s-13
 enum-known-s-13 c = search needs
 
-expire-requires : tie.Need-expire-requires
-expire-requires c κs = search needs
+touch-requires-11 : tie.Need-touch-requires-11
+touch-requires-11 c κs = (c .before .before .before .pre, refl)
 
 enum-known-s-14 : tie.Need-enum-known-s-14
 enum-known-s-14 c = search needs
 
-lose-requires : tie.Need-lose-requires
-lose-requires c κs = search needs
+touch-requires-12 : tie.Need-touch-requires-12
+touch-requires-12 c κs = (c .before .before .before .pre, refl)
 
 enum-known-s-15 : tie.Need-enum-known-s-15
 enum-known-s-15 c = search needs
 
-crash-requires : tie.Need-crash-requires
-crash-requires c κs = search needs
+touch-requires-13 : tie.Need-touch-requires-13
+touch-requires-13 c κs = (c .before .before .before .pre, refl)
 
 enum-known-s-16 : tie.Need-enum-known-s-16
 enum-known-s-16 c = search needs
 
-restart-requires : tie.Need-restart-requires
-restart-requires c κs = search needs
+touch-requires-14 : tie.Need-touch-requires-14
+touch-requires-14 c κs = (c .before .before .before .pre, refl)
 
 returns : tie.Need-returns
 unfolding ruleOf
 returns c = c .send .ensures ∙ sym (ap (ruleOf _) (c .before .before .s .given .1))
 
 returns-2 : tie.Need-returns-2
-unfolding ruleOf
-returns-2 c = c .receive .ensures ∙ sym (ap (ruleOf _) (c .before .before .s2 .given .1))
+returns-2 c = c .touch .ensures ∙ sym (ap (ruleOf _) (c .before .before .s2 .given .1))
 
 returns-3 : tie.Need-returns-3
 unfolding ruleOf
 returns-3 c = c .pre-check .ensures ∙ sym (ap (ruleOf _) (c .before .before .s3 .given .1))
 
 returns-4 : tie.Need-returns-4
-unfolding ruleOf
-returns-4 c = c .send-record .ensures ∙ sym (ap (ruleOf _) (c .before .before .s4 .given .1))
+returns-4 c = c .touch2 .ensures ∙ sym (ap (ruleOf _) (c .before .before .s4 .given .1))
 
 returns-5 : tie.Need-returns-5
-unfolding ruleOf
-returns-5 c = c .timeout .ensures ∙ sym (ap (ruleOf _) (c .before .before .s5 .given .1))
+returns-5 c = c .touch3 .ensures ∙ sym (ap (ruleOf _) (c .before .before .s5 .given .1))
 
 returns-6 : tie.Need-returns-6
-unfolding ruleOf
-returns-6 c = c .take-record .ensures ∙ sym (ap (ruleOf _) (c .before .before .s6 .given .1))
+returns-6 c = c .touch4 .ensures ∙ sym (ap (ruleOf _) (c .before .before .s6 .given .1))
 
 returns-7 : tie.Need-returns-7
-unfolding ruleOf
-returns-7 c = c .take-ack .ensures ∙ sym (ap (ruleOf _) (c .before .before .s7 .given .1))
+returns-7 c = c .touch5 .ensures ∙ sym (ap (ruleOf _) (c .before .before .s7 .given .1))
 
 returns-8 : tie.Need-returns-8
-unfolding ruleOf
-returns-8 c = c .post-check .ensures ∙ sym (ap (ruleOf _) (c .before .before .s8 .given .1))
+returns-8 c = c .touch6 .ensures ∙ sym (ap (ruleOf _) (c .before .before .s8 .given .1))
 
 returns-9 : tie.Need-returns-9
-unfolding ruleOf
-returns-9 c = c .take-repair .ensures ∙ sym (ap (ruleOf _) (c .before .before .s9 .given .1))
+returns-9 c = c .touch7 .ensures ∙ sym (ap (ruleOf _) (c .before .before .s9 .given .1))
 
 returns-10 : tie.Need-returns-10
-unfolding ruleOf
-returns-10 c = c .send-update .ensures ∙ sym (ap (ruleOf _) (c .before .before .s10 .given .1))
+returns-10 c = c .touch8 .ensures ∙ sym (ap (ruleOf _) (c .before .before .s10 .given .1))
 
 returns-11 : tie.Need-returns-11
-unfolding ruleOf
-returns-11 c = c .take-update .ensures ∙ sym (ap (ruleOf _) (c .before .before .s11 .given .1))
+returns-11 c = c .touch9 .ensures ∙ sym (ap (ruleOf _) (c .before .before .s11 .given .1))
 
 returns-12 : tie.Need-returns-12
-unfolding ruleOf
-returns-12 c = c .take-uack .ensures ∙ sym (ap (ruleOf _) (c .before .before .s12 .given .1))
+returns-12 c = c .touch10 .ensures ∙ sym (ap (ruleOf _) (c .before .before .s12 .given .1))
 
 returns-13 : tie.Need-returns-13
-unfolding ruleOf
-returns-13 c = c .expire .ensures ∙ sym (ap (ruleOf _) (c .before .before .s13 .given .1))
+returns-13 c = c .touch11 .ensures ∙ sym (ap (ruleOf _) (c .before .before .s13 .given .1))
 
 returns-14 : tie.Need-returns-14
-unfolding ruleOf
-returns-14 c = c .lose .ensures ∙ sym (ap (ruleOf _) (c .before .before .s14 .given .1))
+returns-14 c = c .touch12 .ensures ∙ sym (ap (ruleOf _) (c .before .before .s14 .given .1))
 
 returns-15 : tie.Need-returns-15
-unfolding ruleOf
-returns-15 c = c .crash .ensures ∙ sym (ap (ruleOf _) (c .before .before .s15 .given .1))
+returns-15 c = c .touch13 .ensures ∙ sym (ap (ruleOf _) (c .before .before .s15 .given .1))
 
 returns-16 : tie.Need-returns-16
-unfolding ruleOf
-returns-16 c = c .restart .ensures ∙ sym (ap (ruleOf _) (c .before .before .s16 .given .1))
+returns-16 c = c .touch14 .ensures ∙ sym (ap (ruleOf _) (c .before .before .s16 .given .1))
 
 pub rule-spec : {M : Type 1} → statement M
 rule-spec =
@@ -172,35 +158,35 @@ rule-spec =
     enum-known-s
     send-requires
     enum-known-s-2
-    receive-requires
+    touch-requires
     enum-known-s-3
     pre-check-requires
     enum-known-s-4
-    send-record-requires
+    touch-requires-2
     enum-known-s-5
-    timeout-requires
+    touch-requires-3
     enum-known-s-6
-    take-record-requires
+    touch-requires-4
     enum-known-s-7
-    take-ack-requires
+    touch-requires-5
     enum-known-s-8
-    post-check-requires
+    touch-requires-6
     enum-known-s-9
-    take-repair-requires
+    touch-requires-7
     enum-known-s-10
-    send-update-requires
+    touch-requires-8
     enum-known-s-11
-    take-update-requires
+    touch-requires-9
     enum-known-s-12
-    take-uack-requires
+    touch-requires-10
     enum-known-s-13
-    expire-requires
+    touch-requires-11
     enum-known-s-14
-    lose-requires
+    touch-requires-12
     enum-known-s-15
-    crash-requires
+    touch-requires-13
     enum-known-s-16
-    restart-requires
+    touch-requires-14
     returns
     returns-2
     returns-3

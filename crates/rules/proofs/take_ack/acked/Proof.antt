@@ -10,6 +10,9 @@ returns c = search tests
 element-copy-out-if2 : tie.Need-element-copy-out-if2
 element-copy-out-if2 c = search needs
 
+cast-if2 : tie.Need-cast-if2
+cast-if2 c = search needs
+
 returns-2 : tie.Need-returns-2
 returns-2 c = search tests
 
@@ -24,4 +27,4 @@ returns-5 c = search tests
 
 pub acked-spec : {M : Type 1} → statement M
 acked-spec =
-    tie.close (tie.spec returns element-copy-out-if2 returns-2 returns-3 returns-4 returns-5)
+    tie.close (tie.spec returns element-copy-out-if2 cast-if2 returns-2 returns-3 returns-4 returns-5)

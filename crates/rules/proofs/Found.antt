@@ -1,0 +1,103 @@
+-- The slots of the actor, the view and the store that are found are those that the step is about: what stands there
+-- has the bounds that its rule needs, and a number that lies outside refuses it. Assumes nothing.
+use Prim.Native.Nat.{ℕ, _<_, _/_, _%_}
+use mathlib.Core.Path.{_≡_, _∙_, ap, sym}
+use mathlib.Core.Bool.{Bool, true, false}
+use native.Mathlib.Omega.{arith}
+use Rattle.machine.specs.Words.{pick}
+use Rattle.machine.specs.Bounds.{Bounds}
+use Rattle.machine.specs.Setup.{answered}
+use Rattle.machine.specs.Slots.{number, queue, view, entry}
+use Rattle.machine.specs.declared.Machine.{Machine}
+use Rattle.rules.specs.About.{aboutOf, storeOf, viewAbout, actorAbout, storeAbout, outsideOf}
+use Rattle.rules.specs.Rule.{head}
+use Rattle.rules.specs.Slots.{Stands, Fits, slotsAt, withSlotsAt, slotsOf, withSlots, outcome}
+use Rattle.rules.specs.Step.{ruleOf}
+use Rattle.rules.specs.Send.{sendNo}
+use Rattle.rules.specs.Receive.{receiveNo}
+use Rattle.rules.specs.PreCheck.{preCheckNo}
+use Rattle.rules.specs.SendRecord.{sendRecordNo}
+use Rattle.rules.specs.Timeout.{timeoutNo}
+use Rattle.rules.specs.TakeRecord.{takeRecordNo}
+use Rattle.rules.specs.TakeAck.{takeAckNo}
+use Rattle.rules.specs.PostCheck.{postCheckNo}
+use Rattle.rules.specs.TakeRepair.{takeRepairNo}
+use Rattle.rules.specs.SendUpdate.{sendUpdateNo}
+use Rattle.rules.specs.TakeUpdate.{takeUpdateNo}
+use Rattle.rules.specs.TakeUack.{takeUackNo}
+use Rattle.rules.specs.Expire.{expireNo}
+use Rattle.rules.specs.Lose.{loseNo}
+use Rattle.rules.specs.Crash.{crashNo}
+use Rattle.rules.specs.Restart.{restartNo}
+use Rattle.rules.specs.declared.about.About.{About}
+use Rattle.rules.specs.declared.slots.Slots.{Slots}
+use Rattle.rules.specs.declared.slots.Tried.{Tried}
+use Rattle.rules.specs.declared.Step.{Step}
+use Rattle.rules.specs.declared.Step.the-variants.{Send, Receive, PreCheck, SendRecord, Timeout, TakeRecord, TakeAck, PostCheck, TakeRepair, SendUpdate, TakeUpdate, TakeUack, Expire, Lose, Crash, Restart}
+use Rattle.rules.proofs.Inside.{key-low}
+
+pub outside-refuses : (m : Machine) (s : Step) → outsideOf (m .stores) (m .actors) (m .made) s ≡ true → ruleOf m s ≡ answered 2 m
+unfolding ruleOf sendNo receiveNo preCheckNo sendRecordNo timeoutNo takeRecordNo takeAckNo postCheckNo takeRepairNo sendUpdateNo takeUpdateNo takeUackNo expireNo loseNo crashNo restartNo
+outside-refuses m (Send from to own word causes) e = simp e
+outside-refuses m (Receive k) e = simp e
+outside-refuses m (PreCheck a) e = simp e
+outside-refuses m (SendRecord a) e = simp e
+outside-refuses m (Timeout a p) e = simp e
+outside-refuses m (TakeRecord p k r) e = simp e
+outside-refuses m (TakeAck p k r) e = simp e
+outside-refuses m (PostCheck a) e = simp e
+outside-refuses m (TakeRepair k r) e = simp e
+outside-refuses m (SendUpdate k r) e = simp e
+outside-refuses m (TakeUpdate p k r) e = simp e
+outside-refuses m (TakeUack p k r) e = simp e
+outside-refuses m (Expire k r) e = simp e
+outside-refuses m (Lose what p k r) e = simp e
+outside-refuses m (Crash p) e = simp e
+outside-refuses m (Restart p) e = simp e
+
+-- how the code finds them, one after another
+pub record Found (m : Machine) (s : Step) (b : About) (a v p : ℕ) : Type 0 where
+  pub about : b ≡ aboutOf s
+  pub viewed : v ≡ viewAbout m b
+  pub acted : a ≡ pick (b .acting) (b .actor) (view m v .actor)
+  pub stored : p ≡ storeOf (b .whose) (b .store) (view m v .store) (entry m v .destination)
+
+-- a view that is not yet received has room in its actor's queue
+room-of : (m : Machine) → Bounds m → (v a : ℕ) → v % 2 ≡ 1 → v / 2 < m .made → a ≡ view m v .actor → view m v .phase ≡ 0 → queue m a .len < 16
+room-of m low v a odd made same zero =
+    let n : number (v / 2) 1 ≡ v = omega (arith, odd) in
+    rw same (rw n at (low .receiveRoom (v / 2) made (rw n zero)))
+
+module _ {m : Machine} {s : Step} {b : About} {a v p : ℕ} (f : Found m s b a v p) where
+  view-is : v ≡ viewAbout m (aboutOf s)
+  view-is = f .viewed ∙ ap (viewAbout m) (f .about)
+
+  actor-is : a ≡ actorAbout m (aboutOf s)
+  actor-is = f .acted ∙ (ap (λ (u : ℕ). pick (b .acting) (b .actor) (view m u .actor)) (f .viewed) ∙ ap (actorAbout m) (f .about))
+
+  store-is : p ≡ storeAbout m (aboutOf s)
+  store-is =
+      f .stored ∙ (ap (λ (u : ℕ). storeOf (b .whose) (b .store) (view m u .store) (entry m u .destination)) (f .viewed) ∙ ap (storeAbout m) (f .about))
+
+  pub stands : outsideOf (m .stores) (m .actors) (m .made) s ≡ false → Stands m s (slotsAt m a v p)
+  stands e = record { inside = e; slots = λ i. slotsAt m (actor-is i) (view-is i) (store-is i) }
+
+  -- what the rule gives is what is written there
+  pub written : (t : Tried) → ruleOf m s ≡ outcome m s t → answered (t .answer) (withSlotsAt m a v p (t .slots)) ≡ ruleOf m s
+  written t e = ap (answered (t .answer)) (λ i. withSlotsAt m (actor-is i) (view-is i) (store-is i) (t .slots)) ∙ sym e
+
+  pub fits : Bounds m → outsideOf (m .stores) (m .actors) (m .made) s ≡ false → v < 32 → a < 8 → p < 8 → Fits (aboutOf s) (slotsAt m a v p)
+  fits low e v-low a-low p-low =
+      record {
+        number32 = v-low;
+        store8 = p-low;
+        viewlink8 = low .viewlinkIn8 v v-low;
+        own8 = low .ownIn8 v v-low;
+        named = named-is;
+        room = λ unnamed odd.
+            room-of m low v a odd (rw (← named-is unnamed) at (key-low m low s e unnamed (rw (← named-is unnamed) odd)))
+            (f .acted ∙ ap (λ (t : Bool). pick t (b .actor) (view m v .actor)) (ap (λ (c : About). c .acting) (f .about) ∙ unnamed));
+      }
+      where
+        named-is : aboutOf s .acting ≡ false → v ≡ aboutOf s .view
+        named-is unnamed = view-is ∙ ap (λ (t : Bool). pick t (head m (aboutOf s .actor)) (aboutOf s .view)) unnamed

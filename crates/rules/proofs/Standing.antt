@@ -1,0 +1,53 @@
+-- What stands in the slots that a step is about tells what its rule gives: a refused rule writes back what stood there,
+-- and so changes nothing. Assumes nothing.
+use Prim.Native.Nat.{ℕ, _+_, _*_, _-_, _/_, _%_, _<_}
+use mathlib.Core.Path.{_≡_, _∙_, sym, ap}
+use mathlib.Core.Bool.{Bool, true, false, _||_, true≢false}
+use lib.Dec.{eqb}
+use mathlib.Core.List.{List}
+use native.Mathlib.Omega.{arith}
+use borrow.Author.Tests.{leb-false}
+use lib.ListN.{getD, set}
+use lib.Seq.{set-getD, getD-set-other}
+use Rattle.machine.specs.Words.{pick}
+use Rattle.machine.specs.Slots.{number, place}
+use Rattle.machine.specs.Setup.{answered}
+use Rattle.machine.specs.declared.Machine.{Machine}
+use Rattle.machine.specs.declared.Answered.{Answered}
+use Rattle.rules.specs.About.{aboutOf}
+use Rattle.rules.specs.Rule.{decided, outside}
+use Rattle.rules.specs.Slots.{Stands, opposite, slotsOf, withSlots}
+use Rattle.rules.specs.Step.{ruleOf, numberOf, afterOf}
+use Rattle.rules.specs.declared.Step.{Step}
+use Rattle.rules.specs.declared.slots.Slots.{Slots}
+
+-- what is written back as it stood changes nothing
+pub unchanged : {m : Machine} {s : Step} {x : Slots} → Stands m s x → withSlots m (aboutOf s) x ≡ m
+unchanged {m} {s} {x} h = ap (withSlots m (aboutOf s)) (h .slots) ∙ simp set-getD
+
+pub refuses : {m : Machine} {s : Step} {x : Slots} (h : Stands m s x) (n : ℕ) → eqb n 0 ≡ false → numberOf m s ≡ n → ruleOf m s ≡ answered n (withSlots m (aboutOf s) x)
+unfolding ruleOf
+refuses {m} {s} {x} h n other e =
+    ap (λ (k : ℕ). decided k m (afterOf m s)) e ∙ (ap (λ (b : Bool). pick b (answered 0 (afterOf m s)) (answered n m)) other ∙ sym (ap (answered n) (unchanged h)))
+
+pub grants : {m : Machine} {s : Step} {x : Slots} → Stands m s x → {after : Machine} → numberOf m s ≡ 0 → after ≡ afterOf m s → ruleOf m s ≡ answered 0 after
+unfolding ruleOf
+grants {m} {s} h e same = ap (λ (k : ℕ). decided k m (afterOf m s)) e ∙ sym (ap (answered 0) same)
+
+-- a view's number tells its key and its role
+pub key-of : (k r : ℕ) → r < 2 → number k r / 2 ≡ k
+key-of k r h = omega arith
+
+pub role-of : (k r : ℕ) → r < 2 → number k r % 2 ≡ r
+role-of k r h = omega arith
+
+-- the opposite view's slot is another one: written back as it stood, it leaves what was written beside it
+beside : {A : Type 0} (l : List A) (i j : ℕ) (x d : A) → (j ≡ i → ⊥) → set (set l i x) j (getD l j d) ≡ set l i x
+beside l i j x d other = sym (ap (set (set l i x) j) (getD-set-other l i j x d other)) ∙ set-getD (set l i x) j d
+
+pub beside-view : {A : Type 0} (l : List A) (v : ℕ) (x d : A) → set (set l v x) (opposite v) (getD l (opposite v) d) ≡ set l v x
+beside-view l v x d = beside l v (opposite v) x d (λ e. omega (arith, e))
+
+pub beside-place : {A : Type 0} (l : List A) (p k r : ℕ) → r < 2 → (x d : A)
+    → set (set l (place p (number k r)) x) (place p (number k (1 - r))) (getD l (place p (number k (1 - r))) d) ≡ set l (place p (number k r)) x
+beside-place l p k r low x d = beside l (place p (number k r)) (place p (number k (1 - r))) x d (λ e. omega (arith, e))

@@ -1,0 +1,50 @@
+-- `take_update` meets its contract: each guard gives the value of its test. Assumes nothing.
+use mathlib.Core.Path.{refl}
+use borrow.Author.Tests.{eq-eqb, ne-eqb}
+use lib.Seq.{set-getD}
+use Rattle.rules.specs.TakeUpdate.{takeUpdateNo, updateTaken}
+use Rattle.rules.proofs.Inside.{role-of-place}
+use Rattle.rules.proofs.Standing.{refuses, grants, key-of, role-of}
+use borrow.Author.Needs.{needs}
+use Rattle.rules.proofs.slots.Slots.take_update.Statement.{statement}
+use Rattle.rules.proofs.slots.Slots.take_update.Tie as tie
+
+with-requires : tie.Need-with-requires
+with-requires c κs = search needs
+
+returns : tie.Need-returns
+unfolding takeUpdateNo
+returns c = λ m p k role h. simp (c .with .ensures) (refuses h 5 refl (simp (h .inside, rw (h .slots) at (c .before .if1 .taken))))
+
+with-requires-2 : tie.Need-with-requires-2
+with-requires-2 c κs = search needs
+
+returns-2 : tie.Need-returns-2
+unfolding takeUpdateNo
+returns-2 c = λ m p k role h. simp (c .with2 .ensures) (refuses h 7 refl (simp (h .inside, rw (h .slots) at (c .before .before .before .if1 .left), rw (h .slots) at (eq-eqb _ _ (c .before .if2 .taken)))))
+
+one-more-requires : tie.Need-one-more-requires
+one-more-requires c κs = search needs
+
+sub-x : tie.Need-sub-x
+sub-x c = search needs
+
+add-x : tie.Need-add-x
+add-x c = search needs
+
+returns-3 : tie.Need-returns-3
+unfolding takeUpdateNo updateTaken
+returns-3 c = λ m p k role h. grants h (simp (h .inside, rw (h .slots) at (c .before .before .before .before .before .before .if1 .left), rw (h .slots) at (ne-eqb _ _ (c .before .before .before .before .if2 .left)))) (simp (c .before .before .one-more .ensures, h .slots, key-of k role (role-of-place (m .stores) (m .made) p k role (h .inside)), role-of k role (role-of-place (m .stores) (m .made) p k role (h .inside)), set-getD) refl)
+
+pub take-update-spec : {M : Type 1} → statement M
+take-update-spec =
+    tie.close
+    (tie.spec
+    with-requires
+    returns
+    with-requires-2
+    returns-2
+    one-more-requires
+    sub-x
+    add-x
+    returns-3)

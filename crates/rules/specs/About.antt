@@ -1,0 +1,79 @@
+-- What a step is about: one actor, one view and one store. It names some of them; the machine tells the others.
+use Prim.Native.Nat.{ℕ}
+use mathlib.Core.Bool.{Bool, true, false, _||_}
+use lib.Dec.{eqb}
+use Rattle.machine.specs.Words.{pick}
+use Rattle.machine.specs.Slots.{number, view, entry}
+use Rattle.machine.specs.declared.Machine.{Machine}
+use Rattle.rules.specs.Rule.{outside, head}
+use Rattle.rules.specs.declared.about.About.{About}
+use Rattle.rules.specs.declared.Step.{Step}
+use Rattle.rules.specs.declared.Step.the-variants.{Send, Receive, PreCheck, SendRecord, Timeout, TakeRecord, TakeAck, PostCheck, TakeRepair, SendUpdate, TakeUpdate, TakeUack, Expire, Lose, Crash, Restart}
+
+-- send and pre-check look back at the receipts of their actor, and so at views that they aren't about
+abbrev pub lookingBack : ℕ → About
+lookingBack a = record { back = true; acting = true; actor = a; view = 0; whose = 0; store = 0 }
+
+-- the actor is named, and the view is its queue's head
+abbrev pub ofActor : ℕ → ℕ → ℕ → About
+ofActor a whose p = record { back = false; acting = true; actor = a; view = 0; whose = whose; store = p }
+
+-- the view is named, and the actor is the view's
+abbrev pub ofView : ℕ → ℕ → ℕ → About
+ofView k r whose = record { back = false; acting = false; actor = 0; view = number k r; whose = whose; store = 0 }
+
+-- the store is named too
+abbrev pub ofPlace : ℕ → ℕ → ℕ → About
+ofPlace p k r = record { back = false; acting = false; actor = 0; view = number k r; whose = 0; store = p }
+
+-- what each kind names; where it names no store and needs none, store 0
+abbrev pub aboutOf : Step → About
+aboutOf (Send from to own word causes) = lookingBack from
+aboutOf (Receive k) = ofView k 1 0
+aboutOf (PreCheck a) = lookingBack a
+aboutOf (SendRecord a) = ofActor a 1 0
+aboutOf (Timeout a p) = ofActor a 0 p
+aboutOf (TakeRecord p k r) = ofPlace p k r
+aboutOf (TakeAck p k r) = ofPlace p k r
+aboutOf (PostCheck a) = ofActor a 0 0
+aboutOf (TakeRepair k r) = ofView k r 0
+aboutOf (SendUpdate k r) = ofView k r 2
+aboutOf (TakeUpdate p k r) = ofPlace p k r
+aboutOf (TakeUack p k r) = ofPlace p k r
+aboutOf (Expire k r) = ofView k r 0
+aboutOf (Lose what p k r) = ofPlace p k r
+aboutOf (Crash p) = ofPlace p 0 0
+aboutOf (Restart p) = ofPlace p 0 0
+
+-- the store that is named, the view's current store, or the destination of its entry
+abbrev pub storeOf : ℕ → ℕ → ℕ → ℕ → ℕ
+storeOf whose named current destination = pick (eqb whose 0) named (pick (eqb whose 1) current destination)
+
+-- the view, the actor and the store, in a machine
+abbrev pub viewAbout : Machine → About → ℕ
+viewAbout m b = pick (b .acting) (head m (b .actor)) (b .view)
+
+abbrev pub actorAbout : Machine → About → ℕ
+actorAbout m b = pick (b .acting) (b .actor) (view m (viewAbout m b) .actor)
+
+abbrev pub storeAbout : Machine → About → ℕ
+storeAbout m b = storeOf (b .whose) (b .store) (view m (viewAbout m b) .store) (entry m (viewAbout m b) .destination)
+
+-- a number that the step names isn't in a machine of so many stores, actors and interactions
+abbrev pub outsideOf : ℕ → ℕ → ℕ → Step → Bool
+outsideOf stores actors made (Send from to own word causes) = outside from actors || outside to actors || outside own stores
+outsideOf stores actors made (Receive k) = outside k made
+outsideOf stores actors made (PreCheck a) = outside a actors
+outsideOf stores actors made (SendRecord a) = outside a actors
+outsideOf stores actors made (Timeout a p) = outside a actors || outside p stores
+outsideOf stores actors made (TakeRecord p k r) = outside p stores || outside k made || outside r 2
+outsideOf stores actors made (TakeAck p k r) = outside p stores || outside k made || outside r 2
+outsideOf stores actors made (PostCheck a) = outside a actors
+outsideOf stores actors made (TakeRepair k r) = outside k made || outside r 2
+outsideOf stores actors made (SendUpdate k r) = outside k made || outside r 2
+outsideOf stores actors made (TakeUpdate p k r) = outside p stores || outside k made || outside r 2
+outsideOf stores actors made (TakeUack p k r) = outside p stores || outside k made || outside r 2
+outsideOf stores actors made (Expire k r) = outside k made || outside r 2
+outsideOf stores actors made (Lose what p k r) = outside what 4 || outside p stores || outside k made || outside r 2
+outsideOf stores actors made (Crash p) = outside p stores
+outsideOf stores actors made (Restart p) = outside p stores

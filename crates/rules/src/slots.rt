@@ -1,0 +1,97 @@
+// What stands in the slots that a step is about. A rule takes them and gives them back, so that whoever calls it
+// reads and writes a machine in place.
+ghost use mathlib.Core.Bool.{false};
+ghost use mathlib.Core.Path.{_≡_};
+ghost use Rattle.machine.specs.declared.Machine.{Machine as State};
+ghost use Rattle.rules.specs.About.{aboutOf};
+ghost use Rattle.rules.specs.Slots.{Fits, Stands, outcome};
+ghost use Rattle.rules.specs.Step.{ruleOf};
+use crate::Step;
+use machine::Contents;
+use machine::Entry;
+use machine::Links;
+use machine::Message;
+use machine::Queue;
+use machine::Repair;
+use machine::View;
+
+pub(crate) struct Slots {
+    // Which view and which store; home and list of the actor. No rule writes these.
+    pub number: usize,
+    pub store: u8,
+    pub home: u8,
+    pub list: u8,
+    // Of the actor, of the interaction, of the view, of the opposite view, of the store.
+    pub queue: Queue,
+    pub message: Message,
+    pub view: View,
+    pub repair: Repair,
+    pub entry: Entry,
+    pub other: Entry,
+    pub up: bool,
+    // Copies in flight at the store for the view.
+    pub records: u8,
+    pub acks: u8,
+    pub updates: u8,
+    pub uacks: u8,
+    // What the store holds for the view, and the opposite view's link there.
+    pub contents: Contents,
+    pub links: Links,
+    pub viewlink: u8,
+    pub across: u8,
+}
+
+// The slots after a step, and its number.
+pub(crate) struct Tried {
+    pub answer: u8,
+    pub slots: Slots,
+}
+
+impl Slots {
+    // These slots and a number: where it refuses, the slots are those that stood there.
+    pub(crate) fn with(self, number: u8) -> Tried
+        ensures { λ r. ⌜ r ≡ record { answer = number; slots = self } ⌝ }
+    {
+        Tried {
+            answer: number,
+            slots: self,
+        }
+    }
+
+    // The rule of a step, for all but those that look back.
+    pub(crate) fn rule(self, s: Step) -> Tried
+        requires { ⌜ Fits (aboutOf s) self ⌝ }
+        requires { ⌜ aboutOf s .back ≡ false ⌝ }
+        ensures { λ r. ⌜ ((m : State) → Stands m s self → ruleOf m s ≡ outcome m s r) ⌝ }
+    {
+        match s {
+            Step::Send {
+                from,
+                to,
+                own,
+                word,
+                causes,
+            } => self.with(2),
+            Step::Receive { key } => self.receive(),
+            Step::PreCheck { actor } => self.with(2),
+            Step::SendRecord { actor } => self.send_record(),
+            Step::Timeout { actor, store } => self.timeout(),
+            Step::TakeRecord { store, key, role } => self.take_record(),
+            Step::TakeAck { store, key, role } => self.take_ack(),
+            Step::PostCheck { actor } => self.post_check(),
+            Step::TakeRepair { key, role } => self.take_repair(),
+            Step::SendUpdate { key, role } => self.send_update(),
+            Step::TakeUpdate { store, key, role } => self.take_update(),
+            Step::TakeUack { store, key, role } => self.take_uack(),
+            Step::Expire { key, role } => self.expire(),
+            Step::Lose {
+                what,
+                store,
+                key,
+                role,
+            } => self.lose(what),
+            Step::Crash { store } => self.crash(),
+            Step::Restart { store } => self.restart(),
+        }
+    }
+}

@@ -1,0 +1,96 @@
+// A step that doesn't look back: the slots that it is about are read, its rule is applied to them, and they are written.
+ghost use mathlib.Core.Bool.{false};
+ghost use mathlib.Core.Path.{_≡_};
+ghost use Rattle.machine.specs.Bounds.{Bounds};
+ghost use Rattle.rules.specs.About.{aboutOf};
+ghost use Rattle.rules.specs.Step.{ruleOf};
+use crate::Recorder;
+use crate::Step;
+use crate::about::about_of;
+use crate::about::actor_of;
+use crate::about::names_outside;
+use crate::about::store_of;
+use crate::about::view_of;
+use crate::slots::Slots;
+use machine::Answered;
+
+impl Recorder {
+    pub(crate) fn touch(self, s: Step) -> Answered
+        requires { ⌜ Bounds (self .machine) ⌝ }
+        requires { ⌜ aboutOf s .back ≡ false ⌝ }
+        ensures { λ r. ⌜ r ≡ ruleOf (self .machine) s ⌝ }
+    {
+        let mut m = self.machine;
+        if names_outside(s, m.stores, m.actors, m.made) {
+            return self.refused(2);
+        }
+        let b = about_of(s);
+        let named = m.queues[b.actor as usize];
+        let v = view_of(b.acting, named.views[0], b.view);
+        let w = m.views[v];
+        let e = m.entries[v];
+        let a = actor_of(b.acting, b.actor, w.actor);
+        let p = store_of(b.whose, b.store, w.store, e.destination);
+        let k = v / 2;
+        let o = k * 2 + (1 - v % 2);
+        let at = p * 32 + v;
+        let over = p * 32 + o;
+        let sender = p * 16 + k;
+        let queue = m.queues[a];
+        let message = m.messages[k];
+        let repair = m.repairs[v];
+        let other = m.entries[o];
+        let contents = m.contents[at];
+        let links = m.links[sender];
+        let x = Slots {
+            number: v,
+            store: p as u8,
+            home: m.homes[a],
+            list: m.lists[a],
+            queue,
+            message,
+            view: w,
+            repair,
+            entry: e,
+            other,
+            up: m.up[p],
+            records: m.records[at],
+            acks: m.acks[at],
+            updates: m.updates[at],
+            uacks: m.uacks[at],
+            contents,
+            links,
+            viewlink: m.viewlinks[at],
+            across: m.viewlinks[over],
+        };
+        let t = x.rule(s);
+        let y = t.slots;
+        let queue = y.queue;
+        let message = y.message;
+        let view = y.view;
+        let repair = y.repair;
+        let entry = y.entry;
+        let other = y.other;
+        let contents = y.contents;
+        let links = y.links;
+        m.queues[a] = queue;
+        m.messages[k] = message;
+        m.views[v] = view;
+        m.repairs[v] = repair;
+        m.entries[v] = entry;
+        m.entries[o] = other;
+        m.up[p] = y.up;
+        m.records[at] = y.records;
+        m.acks[at] = y.acks;
+        m.updates[at] = y.updates;
+        m.uacks[at] = y.uacks;
+        m.contents[at] = contents;
+        m.links[sender] = links;
+        m.viewlinks[at] = y.viewlink;
+        m.viewlinks[over] = y.across;
+        Answered {
+            machine: m,
+            answer: t.answer,
+        }
+    }
+}
