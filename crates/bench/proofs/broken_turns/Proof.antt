@@ -1,0 +1,83 @@
+use Rattle.machine.specs.Words.{one}
+use Rattle.bench.specs.Turns.{turn, summed, brokenTold}
+use mathlib.Core.Path.{ap, _∙_}
+use native.Mathlib.Omega.{arith}
+use borrow.Author.Needs.{needs}
+use Rattle.bench.proofs.Turning.{Turning, turns-start, turn-made, turns-end, turn-told}
+use Rattle.bench.proofs.broken_turns.Statement.{statement}
+use Rattle.bench.proofs.broken_turns.Tie as tie
+use Rattle.bench.proofs.broken_turns.Reads as reads
+use Rattle.bench.proofs.broken_turns.Lts as lts
+use Rattle.bench.proofs.acks.Reads as acks-reads
+use Rattle.bench.proofs.number.Reads as number-reads
+use Rattle.machine.proofs.Machine.broken.Reads as broken-reads
+use Rattle.std.proofs.num.wrapping_add_u32.Reads as wrapping-add-u32-reads
+
+abbrev Inv-loop : tie.InvT-loop
+Inv-loop at times m₀ sum₀ left₀ m sum left = Turning (turn brokenTold at) times (m₀, sum₀) left (m, sum)
+
+abbrev μ-loop : tie.MeasureT-loop
+μ-loop at times m₀ sum₀ left₀ m sum left = left
+
+-- src/lib.rt:56:5
+loop-holds : tie.Need-loop-holds Inv-loop μ-loop
+loop-holds c = turns-start
+
+-- src/lib.rt:57:31
+acks-requires : tie.Need-acks-requires Inv-loop μ-loop
+acks-requires c κs = search needs
+
+-- src/lib.rt:57:9
+element-write-m : tie.Need-element-write-m Inv-loop μ-loop
+element-write-m c = search needs
+
+-- src/lib.rt:58:54
+broken-requires : tie.Need-broken-requires Inv-loop μ-loop
+broken-requires c κs = search needs
+
+-- src/lib.rt:58:47
+number-requires : tie.Need-number-requires Inv-loop μ-loop
+number-requires c κs = search needs
+
+-- src/lib.rt:58:9
+wrapping-add-u32-requires : tie.Need-wrapping-add-u32-requires Inv-loop μ-loop
+wrapping-add-u32-requires c κs = search needs
+
+-- src/lib.rt:59:9
+sub-left : tie.Need-sub-left Inv-loop μ-loop
+sub-left c = omega arith
+
+-- src/lib.rt:56:5
+loop-less : tie.Need-loop-less Inv-loop μ-loop
+loop-less c = omega arith
+
+-- src/lib.rt:56:5
+loop-again : tie.Need-loop-again Inv-loop μ-loop
+loop-again c =
+    let at-loop = c .before .before .before .before .before in
+    let args = at-loop .before .args in
+    let sum = at-loop .loop .sum in
+    turn-made (at-loop .loop .inv) (c .before .before .before .before .loop-test .taken)
+    (turn-told brokenTold (at-loop .loop .m) (args .at) (at-loop .loop .left) sum (c .before .before .before .acks .ensures)
+    (c .wrapping-add-u32 .ensures ∙ ap (summed sum) (c .before .number .ensures ∙ ap one (c .before .before .broken .ensures))))
+
+-- src/lib.rt:50:1
+returns : tie.Need-returns Inv-loop μ-loop
+returns c = ap (λ x. x .1) (turns-end (c .before .loop .inv) (c .loop-test .left))
+
+pub broken-turns-spec : {M : Type 1} → statement M
+broken-turns-spec =
+    tie.close
+    (tie.spec
+    Inv-loop
+    μ-loop
+    loop-holds
+    acks-requires
+    element-write-m
+    broken-requires
+    number-requires
+    wrapping-add-u32-requires
+    sub-left
+    loop-less
+    loop-again
+    returns)

@@ -1,0 +1,53 @@
+-- A call made turn after turn, on a machine after a book, and what is told of the turns: a sum.
+use Prim.Native.Nat.{ℕ, zero, suc, _+_, _%_, _^_}
+use mathlib.Core.List.{List}
+use lib.Dec.{eqb}
+use lib.ListN.{set}
+use Rattle.machine.specs.Words.{pick, one}
+use Rattle.machine.specs.Writes.{withAcks}
+use Rattle.machine.specs.Broken.{brokenOf}
+use Rattle.machine.specs.declared.Machine.{Machine}
+use Rattle.rules.specs.declared.Step.{Step}
+use Rattle.rules.specs.declared.Step.the-variants.{Send}
+use Rattle.rules.specs.Step.{stepOf}
+use Rattle.runs.specs.Book.{shortMade}
+use Rattle.runs.specs.Run.{runOf}
+use Rattle.runs.specs.Drain.{drainOf}
+use Rattle.walk.specs.Walk.{walkOf}
+
+-- the machine after a book
+abbrev pub after : List ℕ → Machine
+after book = runOf book 4096 .machine
+
+-- a step from its kind and its fields; a send has the data word 7 and the last field as its causes
+unfoldable pub stepMade : ℕ → ℕ → ℕ → ℕ → ℕ → Step
+stepMade kind a b c d = pick (eqb kind 1) (Send a b c 7 d) (shortMade kind a b c d)
+
+-- turns n, n - 1, .., 1
+unfoldable pub turns : {A : Type 0} → (ℕ → A → A) → ℕ → A → A
+turns f zero a = a
+turns f (suc n) a = turns f n (f (suc n) a)
+
+abbrev pub summed : ℕ → ℕ → ℕ
+summed sum n = (sum + n) % 2 ^ 32
+
+-- the machine of a turn: the acks in flight at a place are 1 and 2 by turns
+abbrev pub turned : ℕ → ℕ → Machine → Machine
+turned at left m = withAcks m (set (m .acks) at (left % 2 + 1))
+
+-- a turn: what is told of its machine is added up
+abbrev pub turn : (Machine → ℕ) → ℕ → ℕ → Machine × ℕ → Machine × ℕ
+turn told at left x = (turned at left (x .0), summed (x .1) (told (turned at left (x .0))))
+
+-- what is told of each call
+abbrev pub brokenTold : Machine → ℕ
+brokenTold m = one (brokenOf m)
+
+abbrev pub walkTold : ℕ → Machine → ℕ
+walkTold key m = walkOf m key .count
+
+abbrev pub drainTold : Machine → ℕ
+drainTold m = drainOf m .count + drainOf m .machine .made
+
+abbrev pub stepTold : Step → Machine → ℕ
+stepTold s m = stepOf m s .answer + stepOf m s .machine .made

@@ -1,0 +1,192 @@
+// What the benchmark measures of ours, for the Rust program in bench/ to call.
+//
+// A machine is no argument of a call from Rust, so each function makes its own by running a book, then makes one call
+// turn after turn; bench/ takes off the time of a call with no turns. A turn of a step or a drain is the call by value
+// and nothing more that counts: one number of the machine that comes back is read where it lies. The acks in flight at
+// a place are 1 and 2 by turns, so that what one turn found of the machine can't be kept for the next.
+ghost use mathlib.Core.Path.{_≡_};
+ghost use mathlib.Core.Bool.{false};
+ghost use Prim.Native.Nat.{_+_, _%_};
+ghost use lib.ListN.{length};
+ghost use Rattle.machine.specs.Words.{pick, one};
+ghost use Rattle.machine.specs.Broken.{brokenOf};
+ghost use Rattle.runs.specs.Run.{runOf, bufferOf};
+ghost use Rattle.bench.specs.Turns.{after, turns, summed, turn, brokenTold, walkTold, drainTold, stepTold, stepMade};
+use machine::Machine;
+use rules::Recorder;
+use rules::Step;
+
+mod step;
+
+// The machine after a book of at most 4,096 steps.
+fn after(book: &[u8]) -> Machine
+    ensures { λ r. ⌜ r ≡ after (now (book .entry)) ⌝ }
+{
+    let mut answers = [0u8; 4096];
+    let ran = runs::run(book, &mut answers);
+    ran.machine
+}
+
+// The acks of a turn.
+fn acks(left: u32) -> u8
+    ensures { λ r. ⌜ r ≡ left % 2 + 1 ⌝ }
+{
+    (left % 2) as u8 + 1
+}
+
+fn number(flag: bool) -> u32
+    ensures { λ r. ⌜ r ≡ one flag ⌝ }
+{
+    if flag { 1 } else { 0 }
+}
+
+// A number and one of the machine that came with it.
+fn told(n: u16, made: u8) -> u32
+    ensures { λ r. ⌜ r ≡ n + made ⌝ }
+{
+    n as u32 + made as u32
+}
+
+fn broken_turns(from: Machine, at: u8, times: u32) -> u32
+    ensures { λ r. ⌜ r ≡ turns (turn brokenTold at) times (from, 0) .1 ⌝ }
+{
+    let mut m = from;
+    let mut sum: u32 = 0;
+    let mut left = times;
+    while 0 < left {
+        m.acks[at as usize] = acks(left);
+        sum = std::num::wrapping_add_u32(sum, number(m.broken()));
+        left -= 1;
+    }
+    sum
+}
+
+fn walk_turns(from: Machine, key: u8, at: u8, times: u32) -> u32
+    ensures { λ r. ⌜ r ≡ turns (turn (walkTold key) at) times (from, 0) .1 ⌝ }
+{
+    let mut m = from;
+    let mut sum: u32 = 0;
+    let mut left = times;
+    while 0 < left {
+        m.acks[at as usize] = acks(left);
+        let walked = walk::walk(m, key);
+        sum = std::num::wrapping_add_u32(sum, walked.count as u32);
+        left -= 1;
+    }
+    sum
+}
+
+fn drain_turns(from: Machine, at: u8, times: u32) -> u32
+    ensures { λ r. ⌜ r ≡ turns (turn drainTold at) times (from, 0) .1 ⌝ }
+{
+    let mut m = from;
+    let mut sum: u32 = 0;
+    let mut left = times;
+    while 0 < left {
+        m.acks[at as usize] = acks(left);
+        let drained = runs::drain(m);
+        sum = std::num::wrapping_add_u32(sum, told(drained.count, drained.machine.made));
+        left -= 1;
+    }
+    sum
+}
+
+fn step_turns(from: Machine, s: Step, at: u8, times: u32) -> u32
+    ensures { λ r. ⌜ r ≡ turns (turn (stepTold s) at) times (from, 0) .1 ⌝ }
+{
+    let mut m = from;
+    let mut sum: u32 = 0;
+    let mut left = times;
+    while 0 < left {
+        m.acks[at as usize] = acks(left);
+        let r = Recorder { machine: m }.step(s);
+        sum = std::num::wrapping_add_u32(sum, told(r.answer as u16, r.machine.made));
+        left -= 1;
+    }
+    sum
+}
+
+// The machine is the same each turn: there is no test whose answer could be kept.
+fn unbroken_turns(m: Machine, s: Step, times: u32) -> u32
+    requires { ⌜ brokenOf m ≡ false ⌝ }
+    ensures { λ r. ⌜ r ≡ turns (λ _ sum. summed sum (stepTold s m)) times 0 ⌝ }
+{
+    let mut sum: u32 = 0;
+    let mut left = times;
+    while 0 < left {
+        let r = Recorder { machine: m }.step_unbroken(s);
+        sum = std::num::wrapping_add_u32(sum, told(r.answer as u16, r.machine.made));
+        left -= 1;
+    }
+    sum
+}
+
+// One run of a book: how many of its steps were taken.
+#[no_mangle]
+pub extern "C" fn bench_run(book: &[u8], answers: &mut [u8]) -> u16
+    ensures { λ r. ⌜ (r ≡ runOf (now (book .entry)) (length (now (answers .entry))) .taken) × (now (answers .exit) ≡ bufferOf (now (book .entry)) (now (answers .entry))) ⌝ }
+{
+    let ran = runs::run(book, answers);
+    ran.taken
+}
+
+// How many turns found the machine broken.
+#[no_mangle]
+pub extern "C" fn bench_broken(book: &[u8], at: u8, times: u32) -> u32
+    ensures { λ r. ⌜ r ≡ turns (turn brokenTold at) times (after (now (book .entry)), 0) .1 ⌝ }
+{
+    broken_turns(after(book), at, times)
+}
+
+// The keys that the turns' walks answered, counted.
+#[no_mangle]
+pub extern "C" fn bench_walk(book: &[u8], key: u8, at: u8, times: u32) -> u32
+    ensures { λ r. ⌜ r ≡ turns (turn (walkTold key) at) times (after (now (book .entry)), 0) .1 ⌝ }
+{
+    walk_turns(after(book), key, at, times)
+}
+
+// The steps that the turns' drains took, and the interactions of each machine, counted.
+#[no_mangle]
+pub extern "C" fn bench_drain(book: &[u8], at: u8, times: u32) -> u32
+    ensures { λ r. ⌜ r ≡ turns (turn drainTold at) times (after (now (book .entry)), 0) .1 ⌝ }
+{
+    drain_turns(after(book), at, times)
+}
+
+// The numbers of the turns' steps, and the interactions of each machine, summed.
+#[no_mangle]
+pub extern "C" fn bench_step(
+    book: &[u8],
+    kind: u8,
+    a: u8,
+    b: u8,
+    c: u8,
+    d: u8,
+    at: u8,
+    times: u32,
+) -> u32
+    ensures { λ r. ⌜ r ≡ turns (turn (stepTold (stepMade kind a b c d)) at) times (after (now (book .entry)), 0) .1 ⌝ }
+{
+    step_turns(after(book), step::step(kind, a, b, c, d), at, times)
+}
+
+// The same without the test for a broken value in each turn; 1 if the machine is broken.
+#[no_mangle]
+pub extern "C" fn bench_step_unbroken(
+    book: &[u8],
+    kind: u8,
+    a: u8,
+    b: u8,
+    c: u8,
+    d: u8,
+    times: u32,
+) -> u32
+    ensures { λ r. ⌜ r ≡ pick (brokenOf (after (now (book .entry)))) 1 (turns (λ _ sum. summed sum (stepTold (stepMade kind a b c d) (after (now (book .entry))))) times 0) ⌝ }
+{
+    let m = after(book);
+    if m.broken() {
+        return 1;
+    }
+    unbroken_turns(m, step::step(kind, a, b, c, d), times)
+}
