@@ -59,7 +59,7 @@ pub fn run(bytes: &[u8], answers: &mut [u8]) -> Result<Machine, Refusal> {
     let mut machine = Machine::setup(book.stores, &book.actors)?;
     Refusal::ShortBuffer.when(answers.len() < book.steps.len())?;
     for (step, answer) in book.steps.iter().zip(answers) {
-        *answer = number(&machine.take(*step));
+        *answer = number(&machine.take_unbroken(*step));
     }
     Ok(machine)
 }

@@ -17,7 +17,7 @@ impl Machine {
         let limit = STEPS_PER_INTERACTION * usize::from(self.interaction_count);
         for count in 0..limit {
             let Some(step) = self.next_of_drain() else { return Ok(count) };
-            self.take(step).expect("the drain picks a step that its rule allows");
+            self.take_unbroken(step).expect("the drain picks a step that its rule allows");
         }
         Ok(limit)
     }

@@ -16,6 +16,11 @@ impl Machine {
     /// Takes one step, or says why not and changes nothing.
     pub fn take(&mut self, step: Step) -> Taken {
         Refusal::Broken.when(self.is_broken())?;
+        self.take_unbroken(step)
+    }
+
+    /// The same where the machine is known not to be broken: no step breaks one.
+    pub fn take_unbroken(&mut self, step: Step) -> Taken {
         match step {
             Step::Send { from, to, own, data, causes } => self.send(from, to, own, data, causes),
             Step::Receive { key } => self.receive(key),
