@@ -13,6 +13,10 @@ pub struct Draft {
     book: Book,
     machine: Machine,
     random: Random,
+    /// So many interactions are made at most.
+    most: u8,
+    /// One in so many of the steps that bring something to rest is taken.
+    restless: usize,
 }
 
 impl Draft {
@@ -21,7 +25,7 @@ impl Draft {
         let actors: Vec<_> = (0..8).map(|home| ActorSetup { home, list: 0xff }).collect();
         let machine = Machine::setup(8, &actors).expect("the setup is legal");
         let book = Book { stores: 8, actors, steps: Vec::new() };
-        Draft { book, machine, random: Random::new(seed) }
+        Draft { book, machine, random: Random::new(seed), most: 16, restless: 60 }
     }
 
     pub fn bytes(&self) -> Vec<u8> {
@@ -58,7 +62,7 @@ impl Draft {
     fn take(&mut self, kind: u8) -> Option<Step> {
         (0..200).find_map(|_| {
             let step = self.any(kind);
-            let due = !self.ends(step) || self.random.one_in(60);
+            let due = !self.ends(step) || self.random.one_in(self.restless);
             (due && self.machine.take_unbroken(step).is_ok()).then_some(step)
         })
     }
@@ -104,6 +108,9 @@ impl Draft {
     fn go_on(&mut self) {
         loop {
             let kind = self.random.pick(&WEIGHTED).expect("there are kinds");
+            if kind == 1 && self.machine.interaction_count == self.most {
+                continue;
+            }
             if let Some(step) = self.take(kind) {
                 return self.book.steps.push(step);
             }
@@ -123,9 +130,9 @@ impl Draft {
 }
 
 /// Each kind as often as it is drawn. Sends, receipts and pre-checks soon run out.
-const WEIGHTED: [u8; 31] = [
-    1, 2, 3, 3, 4, 4, 4, 5, 5, 5, 6, 6, 6, 6, 7, 7, 7, 8, 9, 10, 10, 11, 11, 12, 12, 13, 13, 14, 14, 15,
-    16,
+const WEIGHTED: [u8; 33] = [
+    1, 1, 1, 2, 3, 3, 4, 4, 4, 5, 5, 5, 6, 6, 6, 6, 7, 7, 7, 8, 9, 10, 10, 11, 11, 12, 12, 13, 13,
+    14, 14, 15, 16,
 ];
 
 /// A book of 4,096 steps over sixteen interactions: every step is taken, but that one in so many
@@ -152,22 +159,35 @@ pub fn sends() -> Vec<u8> {
     draft.bytes()
 }
 
-/// A machine with half of its interactions or more that takes a step of that kind, and the step.
+/// A machine in the midst of its steps that takes a step of that kind, and the step: the shortest
+/// book of some seeds, so that its run is little beside the turns.
 pub fn before(kind: u8) -> (Draft, Step) {
-    let mut draft = Draft::new(kind.into());
+    let found = (0..8).map(|seed| first(kind, seed));
+    found.min_by_key(|(draft, _)| draft.book.steps.len()).expect("there are seeds")
+}
+
+/// Goes on for sixty steps, and then until a step of that kind can be taken.
+fn first(kind: u8, seed: u64) -> (Draft, Step) {
+    let mut draft = Draft { most: 15, restless: 4, ..Draft::new(seed) };
     loop {
         draft.go_on();
-        match draft.machine.interaction_count {
-            0..8 => continue,
-            8..16 => {
-                let machine = draft.machine.clone();
-                if let Some(step) = draft.take(kind) {
-                    return (Draft { machine, ..draft }, step);
-                }
-            }
-            _ => draft = Draft::new(draft.random.bits()),
+        if draft.book.steps.len() < 60 {
+            continue;
+        }
+        let machine = draft.machine.clone();
+        if let Some(step) = draft.take(kind) {
+            return (Draft { machine, ..draft }, step);
         }
     }
+}
+
+/// Sixteen interactions in the midst of their steps.
+pub fn full() -> Draft {
+    let mut draft = Draft::new(104);
+    while draft.machine.interaction_count < 16 {
+        draft.go_on();
+    }
+    draft
 }
 
 /// Sixteen interactions, none received; each actor's head was sent, lost, moved and lost again.
@@ -175,7 +195,13 @@ pub fn messy() -> Draft {
     let mut draft = Draft::new(102);
     for key in 0..16 {
         let from = key % 8;
-        draft.add(Step::Send { from, to: (from + 1 + key / 8) % 8, own: from, data: DATA, causes: 0 });
+        draft.add(Step::Send {
+            from,
+            to: (from + 1 + key / 8) % 8,
+            own: from,
+            data: DATA,
+            causes: 0,
+        });
     }
     for actor in 0..8 {
         let view = View::sender(actor);

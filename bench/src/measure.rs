@@ -4,9 +4,10 @@ use crate::rows::{Row, Side};
 
 const SAMPLES: usize = 101;
 
-/// A sample is so many nanoseconds or so many turns: short, so that most are not interrupted.
-const SAMPLE: f64 = 2e5;
-const TURNS: u32 = 1024;
+/// A sample's turns take so many nanoseconds, or are so many: short, so that most samples are not
+/// interrupted.
+const SAMPLE: f64 = 3e5;
+const TURNS: u32 = 2048;
 
 /// The nanoseconds of a turn of ours and of a turn of the peer's.
 pub fn turn(row: &Row) -> (f64, f64) {
@@ -19,7 +20,7 @@ pub fn turn(row: &Row) -> (f64, f64) {
 /// How many turns make a sample.
 fn turns(side: &Side) -> u32 {
     let mut times = 1;
-    while times < TURNS && nanoseconds(side, times, true) < SAMPLE {
+    while times < TURNS && sample(side, times) * f64::from(times) < SAMPLE {
         times *= 2;
     }
     times

@@ -9,13 +9,24 @@ mod library {
         pub fn bench_walk(book: *const u8, size: usize, key: u8, at: u8, times: u32) -> u32;
         pub fn bench_drain(book: *const u8, size: usize, at: u8, times: u32) -> u32;
         pub fn bench_step(
-            book: *const u8, size: usize,
-            kind: u8, a: u8, b: u8, c: u8, d: u8,
-            at: u8, times: u32,
+            book: *const u8,
+            size: usize,
+            kind: u8,
+            a: u8,
+            b: u8,
+            c: u8,
+            d: u8,
+            at: u8,
+            times: u32,
         ) -> u32;
         pub fn bench_step_unbroken(
-            book: *const u8, size: usize,
-            kind: u8, a: u8, b: u8, c: u8, d: u8,
+            book: *const u8,
+            size: usize,
+            kind: u8,
+            a: u8,
+            b: u8,
+            c: u8,
+            d: u8,
             times: u32,
         ) -> u32;
     }
@@ -24,9 +35,7 @@ mod library {
 /// One run of a book: how many steps were taken.
 pub fn run(book: &[u8], answers: &mut [u8]) -> u16 {
     // SAFETY: both slices live through the call, and each length is its slice's.
-    unsafe {
-        library::bench_run(book.as_ptr(), book.len(), answers.as_mut_ptr(), answers.len())
-    }
+    unsafe { library::bench_run(book.as_ptr(), book.len(), answers.as_mut_ptr(), answers.len()) }
 }
 
 /// How many turns found the machine after a book broken.

@@ -22,7 +22,7 @@ pub struct Side(pub Box<dyn Fn(u32, bool) -> Duration>);
 
 impl Side {
     /// Turns with nothing beside them.
-    fn plain<T>(turn: impl Fn() -> T + 'static) -> Side {
+    pub fn plain<T>(turn: impl Fn() -> T + 'static) -> Side {
         Side(Box::new(move |times, made| {
             let start = Instant::now();
             for _ in 0..if made { times } else { 0 } {
@@ -47,7 +47,8 @@ impl Side {
             let mut time = Duration::ZERO;
             let copies = vec![&machine; times as usize];
             for batch in copies.chunks(COPIES) {
-                let mut copies: Vec<Machine> = batch.iter().map(|&machine| machine.clone()).collect();
+                let mut copies: Vec<Machine> =
+                    batch.iter().map(|&machine| machine.clone()).collect();
                 let start = Instant::now();
                 for copy in copies.iter_mut().filter(|_| made) {
                     black_box(turn(black_box(copy)));
@@ -59,104 +60,106 @@ impl Side {
     }
 }
 
+/// A turn of ours beside a turn of the peer's.
 pub struct Row {
     pub name: String,
-    /// What the ratio is to stay within.
+    /// What the ratio is to stay within, where an aim is set.
     pub aim: Option<u32>,
-    /// What both sides answered before anything was measured.
-    pub answers: (u32, u32),
     pub ours: Side,
     pub peer: Side,
 }
 
-/// All rows, in the order of the table.
-pub fn all() -> Vec<Row> {
-    let mut rows = vec![
-        book("book, 4,096 steps, all taken", books::long(None)),
-        book("book, 4,096 steps, a quarter refused", books::long(Some(4))),
-        broken(books::long(None)),
-        drain(books::messy()),
-        walk(books::chain()),
-        copies(),
-    ];
-    let steps: Vec<_> = (1..=KINDS).map(books::before).collect();
-    rows.extend(steps.iter().map(|(draft, step)| tested(draft, *step)));
-    rows.extend(steps.iter().map(|(draft, step)| untested(draft, *step)));
-    rows
+/// The calls, the copies and the steps, each kind with the test for a broken value and without.
+pub struct Rows {
+    pub calls: Vec<Row>,
+    pub copies: Row,
+    pub tested: Vec<Row>,
+    pub untested: Vec<Row>,
 }
 
-fn book(name: &str, draft: Draft) -> Row {
-    let bytes = draft.bytes();
-    let sum = |answers: &[u8]| answers.iter().map(|&answer| u32::from(answer)).sum::<u32>();
-    let mut buffers = ([0; MAX_STEPS], [0; MAX_STEPS]);
-    ours::run(&bytes, &mut buffers.0);
-    let _ = book::run(&bytes, &mut buffers.1);
-    assert_eq!(buffers.0, buffers.1, "the answers to {name}");
-    let other = bytes.clone();
-    Row {
-        name: name.into(),
-        aim: Some(2),
-        answers: (sum(&buffers.0), sum(&buffers.1)),
-        ours: Side::plain(move || {
-            let mut answers = [0; MAX_STEPS];
-            ours::run(black_box(&bytes), black_box(&mut answers))
-        }),
-        peer: Side::plain(move || {
-            let mut answers = [0; MAX_STEPS];
-            book::run(black_box(&other), black_box(&mut answers))
-        }),
+impl Rows {
+    /// # Panics
+    /// If ours and the peer's don't answer alike what is measured.
+    pub fn new() -> Rows {
+        let steps: Vec<_> = (1..=KINDS).map(books::before).collect();
+        Rows {
+            calls: vec![
+                book("a book of 4,096 steps, all taken", &books::long(None)),
+                book("a book of 4,096 steps, a quarter refused", &books::long(Some(4))),
+                broken(&books::full()),
+                drain(&books::messy()),
+                walk(&books::chain()),
+            ],
+            copies: copies(books::full().machine()),
+            tested: steps.iter().map(|(draft, step)| tested(draft, *step)).collect(),
+            untested: steps.iter().map(|(draft, step)| untested(draft, *step)).collect(),
+        }
+    }
+
+    /// Every row, in one order.
+    pub fn all(&self) -> impl Iterator<Item = &Row> {
+        let copies = std::slice::from_ref(&self.copies);
+        [&self.calls, copies, &self.tested, &self.untested].into_iter().flatten()
     }
 }
 
-fn broken(draft: Draft) -> Row {
-    let (bytes, machine) = (draft.bytes(), draft.machine().clone());
-    let expected = machine.is_broken().into();
-    let at = place(expected, |at| ours::broken(&bytes, at, 1));
+fn book(name: &str, draft: &Draft) -> Row {
+    let (bytes, same) = (draft.bytes(), draft.bytes());
+    let mut answers = ([0; MAX_STEPS], [0; MAX_STEPS]);
+    ours::run(&bytes, &mut answers.0);
+    book::run(&bytes, &mut answers.1).expect("the book is run");
+    assert!(answers.0 == answers.1, "the answers to {name} differ");
     Row {
-        name: "test for a broken value, sixteen interactions".into(),
+        name: name.into(),
         aim: Some(2),
-        answers: (ours::broken(&bytes, at, 1), expected),
+        ours: Side::plain(move || ours::run(black_box(&bytes), &mut [0; MAX_STEPS])),
+        peer: Side::plain(move || book::run(black_box(&same), &mut [0; MAX_STEPS])),
+    }
+}
+
+fn broken(draft: &Draft) -> Row {
+    let (bytes, machine) = (draft.bytes(), draft.machine().clone());
+    let at = place(machine.is_broken().into(), |at| ours::broken(&bytes, at, 1));
+    Row {
+        name: "the test for a broken value".into(),
+        aim: Some(2),
         ours: Side::looped(move |times| ours::broken(&bytes, at, times)),
         peer: Side::plain(move || black_box(&machine).is_broken()),
     }
 }
 
-fn drain(draft: Draft) -> Row {
+fn drain(draft: &Draft) -> Row {
     let (bytes, machine) = (draft.bytes(), draft.machine().clone());
     let mut drained = machine.clone();
-    let count = drained.drain().expect("every store is up");
-    let expected = count as u32 + u32::from(drained.interaction_count);
-    let at = place(expected, |at| ours::drain(&bytes, at, 1));
+    let count = drained.drain().expect("every store is up") as u32;
+    let told = count + u32::from(drained.interaction_count);
+    let at = place(told, |at| ours::drain(&bytes, at, 1));
     Row {
-        name: format!("drain of sixteen interactions, {count} steps"),
+        name: format!("the drain of sixteen interactions, {count} steps"),
         aim: Some(8),
-        answers: (ours::drain(&bytes, at, 1), expected),
         ours: Side::looped(move |times| ours::drain(&bytes, at, times)),
-        peer: Side::on_copies(machine, |machine| machine.drain()),
+        peer: Side::on_copies(machine, Machine::drain),
     }
 }
 
-fn walk(draft: Draft) -> Row {
+fn walk(draft: &Draft) -> Row {
     let (bytes, machine) = (draft.bytes(), draft.machine().clone());
-    let expected = machine.walk(15).expect("the chain is closed").len() as u32;
-    let at = place(expected, |at| ours::walk(&bytes, 15, at, 1));
+    let keys = machine.walk(15).expect("the chain is closed").len();
+    let at = place(keys as u32, |at| ours::walk(&bytes, 15, at, 1));
     Row {
-        name: "walk of sixteen keys".into(),
+        name: format!("the walk of {keys} keys"),
         aim: Some(3),
-        answers: (ours::walk(&bytes, 15, at, 1), expected),
         ours: Side::looped(move |times| ours::walk(&bytes, 15, at, times)),
         peer: Side::plain(move || black_box(&machine).walk(15)),
     }
 }
 
-/// The floor of a step by value: one copy in, one out. The peer's side copies its own machine.
-fn copies() -> Row {
-    let bytes = [0u8; MACHINE_BYTES];
-    let machine = books::long(None).machine().clone();
+/// Two copies of a value as large as our machine, and one of the peer's machine.
+fn copies(machine: &Machine) -> Row {
+    let (bytes, machine) = ([0u8; MACHINE_BYTES], machine.clone());
     Row {
-        name: "two copies of our machine; the peer's: one of its own".into(),
+        name: "two copies of our machine, one of the peer's".into(),
         aim: None,
-        answers: (0, 0),
         ours: Side::plain(move || {
             let copy = *black_box(&bytes);
             *black_box(&copy)
@@ -168,12 +171,10 @@ fn copies() -> Row {
 /// A step with the test for a broken value.
 fn tested(draft: &Draft, step: Step) -> Row {
     let (bytes, machine) = (draft.bytes(), draft.machine().clone());
-    let expected = told(&machine, step);
-    let at = place(expected, |at| ours::step(&bytes, step, at, 1));
+    let at = place(told(&machine, step), |at| ours::step(&bytes, step, at, 1));
     Row {
-        name: format!("step {}, tested", named(step)),
+        name: named(step),
         aim: None,
-        answers: (ours::step(&bytes, step, at, 1), expected),
         ours: Side::looped(move |times| ours::step(&bytes, step, at, times)),
         peer: Side::on_copies(machine, move |machine| machine.take(step)),
     }
@@ -182,10 +183,11 @@ fn tested(draft: &Draft, step: Step) -> Row {
 /// A step of a machine that is known not to be broken.
 fn untested(draft: &Draft, step: Step) -> Row {
     let (bytes, machine) = (draft.bytes(), draft.machine().clone());
+    let alike = ours::step_unbroken(&bytes, step, 1) == told(&machine, step);
+    assert!(alike, "the answers to {step:?} differ");
     Row {
-        name: format!("step {}", named(step)),
+        name: named(step),
         aim: None,
-        answers: (ours::step_unbroken(&bytes, step, 1), told(&machine, step)),
         ours: Side::looped(move |times| ours::step_unbroken(&bytes, step, times)),
         peer: Side::on_copies(machine, move |machine| machine.take_unbroken(step)),
     }
@@ -222,7 +224,7 @@ fn named(step: Step) -> String {
     format!("{kind} {}", NAMES[usize::from(kind) - 1])
 }
 
-/// A place where acks, which differ from turn to turn, don't change what a turn gives.
-fn place(expected: u32, turn: impl Fn(u8) -> u32) -> u8 {
-    (0..=255).find(|&at| turn(at) == expected).expect("some place changes nothing")
+/// A place whose acks, which ours changes from turn to turn, don't change what a turn gives.
+fn place(peer: u32, turn: impl Fn(u8) -> u32) -> u8 {
+    (0..=255).find(|&at| turn(at) == peer).expect("ours and the peer's answer alike")
 }
