@@ -1,17 +1,12 @@
-use Rattle.machine.specs.Words.{one}
-use Rattle.bench.specs.Turns.{turn, summed, brokenTold}
+-- The loop makes the turns of the definition; the measure is the turns left. Assumes nothing.
 use mathlib.Core.Path.{ap, _∙_}
 use native.Mathlib.Omega.{arith}
 use borrow.Author.Needs.{needs}
+use Rattle.machine.specs.Words.{one}
+use Rattle.bench.specs.Turns.{turn, summed, brokenTold}
 use Rattle.bench.proofs.Turning.{Turning, turns-start, turn-made, turns-end, turn-told}
 use Rattle.bench.proofs.broken_turns.Statement.{statement}
 use Rattle.bench.proofs.broken_turns.Tie as tie
-use Rattle.bench.proofs.broken_turns.Reads as reads
-use Rattle.bench.proofs.broken_turns.Lts as lts
-use Rattle.bench.proofs.acks.Reads as acks-reads
-use Rattle.bench.proofs.number.Reads as number-reads
-use Rattle.machine.proofs.Machine.broken.Reads as broken-reads
-use Rattle.std.proofs.num.wrapping_add_u32.Reads as wrapping-add-u32-reads
 
 abbrev Inv-loop : tie.InvT-loop
 Inv-loop at times m₀ sum₀ left₀ m sum left = Turning (turn brokenTold at) times (m₀, sum₀) left (m, sum)
@@ -19,39 +14,30 @@ Inv-loop at times m₀ sum₀ left₀ m sum left = Turning (turn brokenTold at) 
 abbrev μ-loop : tie.MeasureT-loop
 μ-loop at times m₀ sum₀ left₀ m sum left = left
 
--- src/lib.rt:56:5
 loop-holds : tie.Need-loop-holds Inv-loop μ-loop
 loop-holds c = turns-start
 
--- src/lib.rt:57:31
 acks-requires : tie.Need-acks-requires Inv-loop μ-loop
 acks-requires c κs = search needs
 
--- src/lib.rt:57:9
 element-write-m : tie.Need-element-write-m Inv-loop μ-loop
 element-write-m c = search needs
 
--- src/lib.rt:58:54
 broken-requires : tie.Need-broken-requires Inv-loop μ-loop
 broken-requires c κs = search needs
 
--- src/lib.rt:58:47
 number-requires : tie.Need-number-requires Inv-loop μ-loop
 number-requires c κs = search needs
 
--- src/lib.rt:58:9
 wrapping-add-u32-requires : tie.Need-wrapping-add-u32-requires Inv-loop μ-loop
 wrapping-add-u32-requires c κs = search needs
 
--- src/lib.rt:59:9
 sub-left : tie.Need-sub-left Inv-loop μ-loop
 sub-left c = omega arith
 
--- src/lib.rt:56:5
 loop-less : tie.Need-loop-less Inv-loop μ-loop
 loop-less c = omega arith
 
--- src/lib.rt:56:5
 loop-again : tie.Need-loop-again Inv-loop μ-loop
 loop-again c =
     let at-loop = c .before .before .before .before .before in
@@ -61,7 +47,6 @@ loop-again c =
     (turn-told brokenTold (at-loop .loop .m) (args .at) (at-loop .loop .left) sum (c .before .before .before .acks .ensures)
     (c .wrapping-add-u32 .ensures ∙ ap (summed sum) (c .before .number .ensures ∙ ap one (c .before .before .broken .ensures))))
 
--- src/lib.rt:50:1
 returns : tie.Need-returns Inv-loop μ-loop
 returns c = ap (λ x. x .1) (turns-end (c .before .loop .inv) (c .loop-test .left))
 

@@ -1,18 +1,13 @@
+-- The loop makes the turns of the definition; the measure is the turns left. Assumes nothing.
 use Prim.Native.Nat.{_+_}
-use Rattle.machine.specs.declared.Answered.{Answered}
-use Rattle.bench.specs.Turns.{turn, summed, stepTold}
 use mathlib.Core.Path.{ap, _∙_}
 use native.Mathlib.Omega.{arith}
 use borrow.Author.Needs.{needs}
+use Rattle.machine.specs.declared.Answered.{Answered}
+use Rattle.bench.specs.Turns.{turn, summed, stepTold}
 use Rattle.bench.proofs.Turning.{Turning, turns-start, turn-made, turns-end, turn-told}
 use Rattle.bench.proofs.step_turns.Statement.{statement}
 use Rattle.bench.proofs.step_turns.Tie as tie
-use Rattle.bench.proofs.step_turns.Reads as reads
-use Rattle.bench.proofs.step_turns.Lts as lts
-use Rattle.bench.proofs.acks.Reads as acks-reads
-use Rattle.bench.proofs.told.Reads as told-reads
-use Rattle.rules.proofs.Recorder.step.Reads as step-reads
-use Rattle.std.proofs.num.wrapping_add_u32.Reads as wrapping-add-u32-reads
 
 abbrev Inv-loop : tie.InvT-loop
 Inv-loop s at times m₀ sum₀ left₀ m sum left = Turning (turn (stepTold s) at) times (m₀, sum₀) left (m, sum)
@@ -20,43 +15,33 @@ Inv-loop s at times m₀ sum₀ left₀ m sum left = Turning (turn (stepTold s) 
 abbrev μ-loop : tie.MeasureT-loop
 μ-loop s at times m₀ sum₀ left₀ m sum left = left
 
--- src/lib.rt:101:5
 loop-holds : tie.Need-loop-holds Inv-loop μ-loop
 loop-holds c = turns-start
 
--- src/lib.rt:102:31
 acks-requires : tie.Need-acks-requires Inv-loop μ-loop
 acks-requires c κs = search needs
 
--- src/lib.rt:102:9
 element-write-m : tie.Need-element-write-m Inv-loop μ-loop
 element-write-m c = search needs
 
--- src/lib.rt:103:13
 step-requires : tie.Need-step-requires Inv-loop μ-loop
 step-requires c κs = search needs
 
--- src/lib.rt:105:52
 cast-told : tie.Need-cast-told Inv-loop μ-loop
 cast-told c = search needs
 
--- src/lib.rt:105:47
 told-requires : tie.Need-told-requires Inv-loop μ-loop
 told-requires c κs = search needs
 
--- src/lib.rt:105:9
 wrapping-add-u32-requires : tie.Need-wrapping-add-u32-requires Inv-loop μ-loop
 wrapping-add-u32-requires c κs = search needs
 
--- src/lib.rt:106:9
 sub-left : tie.Need-sub-left Inv-loop μ-loop
 sub-left c = omega arith
 
--- src/lib.rt:101:5
 loop-less : tie.Need-loop-less Inv-loop μ-loop
 loop-less c = omega arith
 
--- src/lib.rt:101:5
 loop-again : tie.Need-loop-again Inv-loop μ-loop
 loop-again c =
     let at-loop = c .before .before .before .before .before .before in
@@ -66,7 +51,6 @@ loop-again c =
     (turn-told (stepTold (args .s)) (at-loop .loop .m) (args .at) (at-loop .loop .left) sum (c .before .before .before .before .acks .ensures)
     (c .wrapping-add-u32 .ensures ∙ ap (summed sum) (c .before .told .ensures ∙ ap (λ (r : Answered). r .answer + r .machine .made) (c .before .before .before .step .ensures))))
 
--- src/lib.rt:95:1
 returns : tie.Need-returns Inv-loop μ-loop
 returns c = ap (λ x. x .1) (turns-end (c .before .loop .inv) (c .loop-test .left))
 
