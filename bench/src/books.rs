@@ -181,12 +181,10 @@ fn first(kind: u8, seed: u64) -> (Draft, Step) {
     }
 }
 
-/// Sixteen interactions in the midst of their steps.
+/// Sixteen interactions in the midst of their steps, three hundred in all.
 pub fn full() -> Draft {
     let mut draft = Draft::new(104);
-    while draft.machine.interaction_count < 16 {
-        draft.go_on();
-    }
+    (0..300).for_each(|_| draft.go_on());
     draft
 }
 
