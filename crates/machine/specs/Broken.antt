@@ -55,15 +55,13 @@ phaseFine stores w =
     (ltb (w .store) stores && ltb (w .viewlink) stores)
 
 -- phase 0 is for receivers only; a receiver has no causes; sender equals receiver
-abbrev pub roleFine : List View → ℕ → View → Bool
-roleFine views v w =
-    pick (eqb (v % 2) 0) (leb 1 (w .phase))
-    (eqb (w .causes) 0 && not (eqb (w .actor) (getD views (v - 1) noView .actor)))
+abbrev pub roleFine : ℕ → ℕ → View → Bool
+roleFine sender v w = pick (eqb (v % 2) 0) (leb 1 (w .phase)) (eqb (w .causes) 0 && not (eqb (w .actor) sender))
 
 -- the actor and the phase of a view are numbers of this machine; a view that isn't made is blank
-abbrev pub madeView : ℕ → ℕ → List View → ℕ → View → Bool
-madeView actors made views v w =
-    pick (ltb v (made * 2)) (ltb (w .actor) actors && leb (w .phase) 5 && roleFine views v w) (eqb (w .actor) 0 && eqb (w .phase) 0)
+abbrev pub madeView : ℕ → ℕ → ℕ → ℕ → View → Bool
+madeView actors made sender v w =
+    pick (ltb v (made * 2)) (ltb (w .actor) actors && leb (w .phase) 5 && roleFine sender v w) (eqb (w .actor) 0 && eqb (w .phase) 0)
 
 -- phases 1 to 4 stand in a queue
 abbrev pub waits : ℕ → Bool
@@ -75,13 +73,16 @@ queuedOnce queues v w = let n = times v (standing (getD queues (w .actor) noQueu
 
 unfoldable pub viewFine : ℕ → ℕ → ℕ → List View → List Queue → ℕ → View → Bool
 viewFine stores actors made views queues v w =
-    linksFine stores (v / 2) (w .causes) (w .links) && phaseFine stores w && madeView actors made views v w && queuedOnce queues v w
+    linksFine stores (v / 2) (w .causes) (w .links) && phaseFine stores w
+    && madeView actors made (getD views (v - 1) noView .actor) v w && queuedOnce queues v w
 
--- .. or another view is; a view behind a head isn't in phase 1; an unused slot isn't blank: a place behind the queue's end
+-- .. or another view is; a view behind a head isn't in phase 1
+abbrev pub waitsAt : ℕ → ℕ → View → Bool
+waitsAt a i w = eqb (w .actor) a && waits (w .phase) && (eqb i 0 || eqb (w .phase) 1)
+
+-- an unused slot isn't blank: a place behind the queue's end
 abbrev pub standsFine : List View → ℕ → ℕ → ℕ → ℕ → Bool
-standsFine views a len i v =
-    let w = getD views v noView in
-    pick (ltb i len) (eqb (w .actor) a && waits (w .phase) && (eqb i 0 || eqb (w .phase) 1)) (eqb v 0)
+standsFine views a len i v = let w = getD views v noView in pick (ltb i len) (waitsAt a i w) (eqb v 0)
 
 unfoldable pub queueFine : ℕ → List View → ℕ → Queue → Bool
 queueFine actors views a q =
@@ -118,11 +119,16 @@ unfoldable pub updatesFine : ℕ → List Entry → List ℕ → Bool
 updatesFine stores entries l = all (copiesFine stores (λ v. leb 1 (statusNumber (getD entries v noEntry .status)))) l
 
 -- contents in a store differ from the view's record; a view in phase 0 or 1 has contents in a store
+abbrev pub sameContents : ℕ → View → ℕ → Contents → Bool
+sameContents stores w at c =
+    ltb (at / 32) stores && leb 2 (w .phase) && eqb (c .asserter) (w .actor) && eqb (c .causes) (w .causes) && eqb (c .word) (w .word)
+
+-- an unused slot isn't blank: where no contents are
+abbrev pub blankContents : Contents → Bool
+blankContents c = eqb (c .asserter) 0 && eqb (c .causes) 0 && eqb (c .word) 0
+
 unfoldable pub contentsFine : ℕ → List View → ℕ → Contents → Bool
-contentsFine stores views at c =
-    let w = getD views (at % 32) noView in
-    let same = ltb (at / 32) stores && leb 2 (w .phase) && eqb (c .asserter) (w .actor) && eqb (c .causes) (w .causes) && eqb (c .word) (w .word) in
-    pick (c .held) same (eqb (c .asserter) 0 && eqb (c .causes) 0 && eqb (c .word) 0)
+contentsFine stores views at c = let same = sameContents stores (getD views (at % 32) noView) at c in pick (c .held) same (blankContents c)
 
 -- the cause links of contents are those of the record, and blank where no contents are
 unfoldable pub sameLinks : List ℕ → List ℕ → Bool

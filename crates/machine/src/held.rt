@@ -6,15 +6,14 @@ use super::View;
 use super::broken::both;
 ghost use mathlib.Core.Path.{_≡_};
 ghost use mathlib.Core.Bool.{_&&_};
-ghost use Prim.Native.Nat.{_<_, _/_};
-ghost use lib.Dec.{eqb, ltb, leb};
+ghost use lib.Dec.{eqb};
 ghost use lib.ListN.{length};
 ghost use Rattle.machine.specs.Words.{pick, all};
-ghost use Rattle.machine.specs.Broken.{contentsFine, sameLinks, heldLinksFine, viewlinkFine, viewlinksFine};
+ghost use Rattle.machine.specs.Broken.{sameContents, blankContents, contentsFine, sameLinks, heldLinksFine, viewlinkFine, viewlinksFine};
 
 // Contents are those of the view's record, at a store that is there.
 fn same_contents(stores: u8, w: View, at: usize, c: Contents) -> bool
-    ensures { λ r. ⌜ r ≡ (ltb (at / 32) stores && leb 2 (w .phase) && eqb (c .asserter) (w .actor) && eqb (c .causes) (w .causes) && eqb (c .word) (w .word)) ⌝ }
+    ensures { λ r. ⌜ r ≡ sameContents stores w at c ⌝ }
 {
     if stores as usize <= at / 32 {
         return false;
@@ -32,17 +31,15 @@ fn same_contents(stores: u8, w: View, at: usize, c: Contents) -> bool
 }
 
 fn blank_contents(c: Contents) -> bool
-    ensures { λ r. ⌜ r ≡ (eqb (c .asserter) 0 && eqb (c .causes) 0 && eqb (c .word) 0) ⌝ }
+    ensures { λ r. ⌜ r ≡ blankContents c ⌝ }
 {
     both(both(c.asserter == 0, c.causes == 0), c.word == 0)
 }
 
-fn contents_fine(stores: u8, views: [View; 32], at: usize, c: Contents) -> bool
-    requires { ⌜ at < 256 ⌝ }
-    ensures { λ r. ⌜ r ≡ contentsFine stores views at c ⌝ }
+fn contents_fine(stores: u8, w: View, at: usize, c: Contents) -> bool
+    ensures { λ r. ⌜ r ≡ pick (c .held) (sameContents stores w at c) (blankContents c) ⌝ }
 {
     if c.held {
-        let w = views[at % 32];
         return same_contents(stores, w, at, c);
     }
     blank_contents(c)
@@ -53,8 +50,9 @@ pub(crate) fn all_contents_fine(stores: u8, views: [View; 32], contents: [Conten
 {
     let mut at: usize = 0;
     while at < 256 {
+        let w = views[at % 32];
         let c = contents[at];
-        let fine = contents_fine(stores, views, at, c);
+        let fine = contents_fine(stores, w, at, c);
         if !fine {
             return false;
         }

@@ -6,8 +6,8 @@ use super::broken::both;
 ghost use mathlib.Core.Path.{_≡_};
 ghost use mathlib.Core.Bool.{_&&_, _||_, not};
 ghost use lib.Dec.{eqb, ltb};
-ghost use Rattle.machine.specs.Words.{all};
-ghost use Rattle.machine.specs.Broken.{rowsFine, upFine, waits, standsFine, queueFine};
+ghost use Rattle.machine.specs.Words.{pick, all};
+ghost use Rattle.machine.specs.Broken.{rowsFine, upFine, waitsAt, standsFine, queueFine};
 
 // What stands behind the last actor is blank.
 fn row_fine(actors: u8, a: usize, x: u8) -> bool
@@ -59,7 +59,7 @@ pub(crate) fn up_fine(stores: u8, up: [bool; 8]) -> bool
 
 // The view that stands at place i of an actor's queue waits, behind the head in phase 1.
 fn waiting_fine(a: usize, i: usize, w: View) -> bool
-    ensures { λ r. ⌜ r ≡ (eqb (w .actor) a && waits (w .phase) && (eqb i 0 || eqb (w .phase) 1)) ⌝ }
+    ensures { λ r. ⌜ r ≡ waitsAt a i w ⌝ }
 {
     if w.actor as usize != a {
         return false;
@@ -76,8 +76,8 @@ fn waiting_fine(a: usize, i: usize, w: View) -> bool
     w.phase == 1
 }
 
-fn stands_fine(views: [View; 32], a: usize, len: u8, i: usize, v: u8) -> bool
-    ensures { λ r. ⌜ r ≡ standsFine views a len i v ⌝ }
+fn stands_fine(a: usize, len: u8, i: usize, v: u8, w: View) -> bool
+    ensures { λ r. ⌜ r ≡ pick (ltb i len) (ltb v 32 && waitsAt a i w) (eqb v 0) ⌝ }
 {
     if len as usize <= i {
         return v == 0;
@@ -86,8 +86,6 @@ fn stands_fine(views: [View; 32], a: usize, len: u8, i: usize, v: u8) -> bool
     if 32 <= v {
         return false;
     }
-    let at = v as usize;
-    let w = views[at];
     waiting_fine(a, i, w)
 }
 
@@ -96,7 +94,10 @@ fn standing_fine(views: [View; 32], a: usize, len: u8, standing: [u8; 16]) -> bo
 {
     let mut i: usize = 0;
     while i < 16 {
-        let fine = stands_fine(views, a, len, i, standing[i]);
+        let v = standing[i];
+        // Of a number that no view has any view may be read: the test looks at the number first.
+        let w = views[v as usize % 32];
+        let fine = stands_fine(a, len, i, v, w);
         if !fine {
             return false;
         }

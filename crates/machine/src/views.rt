@@ -4,12 +4,13 @@ use super::Queue;
 use super::View;
 use super::broken::both;
 ghost use mathlib.Core.Path.{_≡_};
-ghost use mathlib.Core.Bool.{_&&_, not};
-ghost use Prim.Native.Nat.{_<_, _≤_};
-ghost use lib.Dec.{eqb};
+ghost use mathlib.Core.Bool.{_&&_, _||_, not};
+ghost use Prim.Native.Nat.{_≤_, _<_, _-_, _/_};
+ghost use lib.Dec.{eqb, ltb};
 ghost use lib.ListN.{take};
 ghost use Rattle.machine.specs.Words.{all, one, times};
-ghost use Rattle.machine.specs.Broken.{linkFine, linksFine, phaseFine, roleFine, madeView, queuedOnce, viewFine};
+ghost use Rattle.machine.specs.Slots.{standing};
+ghost use Rattle.machine.specs.Broken.{linkFine, linksFine, phaseFine, roleFine, madeView, waits, viewFine};
 
 fn link_fine(stores: u8, key: usize, causes: u16, j: usize, link: u8) -> bool
     requires { ⌜ j < 16 ⌝ }
@@ -56,9 +57,8 @@ fn phase_fine(stores: u8, w: View) -> bool
     both(w.store < stores, w.viewlink < stores)
 }
 
-fn role_fine(views: [View; 32], v: usize, w: View) -> bool
-    requires { ⌜ v < 32 ⌝ }
-    ensures { λ r. ⌜ r ≡ roleFine views v w ⌝ }
+fn role_fine(sender: u8, v: usize, w: View) -> bool
+    ensures { λ r. ⌜ r ≡ roleFine sender v w ⌝ }
 {
     if v % 2 == 0 {
         return 1 <= w.phase;
@@ -66,13 +66,11 @@ fn role_fine(views: [View; 32], v: usize, w: View) -> bool
     if w.causes != 0 {
         return false;
     }
-    let sender = views[v - 1];
-    w.actor != sender.actor
+    w.actor != sender
 }
 
-fn made_view(actors: u8, made: u8, views: [View; 32], v: usize, w: View) -> bool
-    requires { ⌜ v < 32 ⌝ }
-    ensures { λ r. ⌜ r ≡ madeView actors made views v w ⌝ }
+fn made_view(actors: u8, made: u8, sender: u8, v: usize, w: View) -> bool
+    ensures { λ r. ⌜ r ≡ madeView actors made sender v w ⌝ }
 {
     if (made as usize) * 2 <= v {
         if w.actor != 0 {
@@ -86,7 +84,7 @@ fn made_view(actors: u8, made: u8, views: [View; 32], v: usize, w: View) -> bool
     if 5 < w.phase {
         return false;
     }
-    role_fine(views, v, w)
+    role_fine(sender, v, w)
 }
 
 // One if the place holds the view's number.
@@ -116,8 +114,8 @@ fn times(v: usize, len: u8, views: [u8; 16]) -> usize
     n
 }
 
-fn queued_once(queues: [Queue; 8], v: usize, w: View) -> bool
-    ensures { λ r. ⌜ r ≡ queuedOnce queues v w ⌝ }
+fn queued_once(queue: Queue, v: usize, w: View) -> bool
+    ensures { λ r. ⌜ r ≡ (not (waits (w .phase)) || (ltb (w .actor) 8 && eqb (times v (standing queue)) 1)) ⌝ }
 {
     if w.phase < 1 {
         return true;
@@ -129,23 +127,12 @@ fn queued_once(queues: [Queue; 8], v: usize, w: View) -> bool
     if 8 <= w.actor {
         return false;
     }
-    let a = w.actor as usize;
-    let queue = queues[a];
     let standing = queue.views;
     times(v, queue.len, standing) == 1
 }
 
-fn view_fine(
-    stores: u8,
-    actors: u8,
-    made: u8,
-    views: [View; 32],
-    queues: [Queue; 8],
-    v: usize,
-    w: View,
-) -> bool
-    requires { ⌜ v < 32 ⌝ }
-    ensures { λ r. ⌜ r ≡ viewFine stores actors made views queues v w ⌝ }
+fn view_fine(stores: u8, actors: u8, made: u8, sender: u8, queue: Queue, v: usize, w: View) -> bool
+    ensures { λ r. ⌜ r ≡ (linksFine stores (v / 2) (w .causes) (w .links) && phaseFine stores w && madeView actors made sender v w && (not (waits (w .phase)) || (ltb (w .actor) 8 && eqb (times v (standing queue)) 1))) ⌝ }
 {
     let links = w.links;
     let recorded = both(
@@ -153,9 +140,19 @@ fn view_fine(
         phase_fine(stores, w),
     );
     both(
-        both(recorded, made_view(actors, made, views, v, w)),
-        queued_once(queues, v, w),
+        both(recorded, made_view(actors, made, sender, v, w)),
+        queued_once(queue, v, w),
     )
+}
+
+// The number before, where a receiver's sender stands; none is before 0.
+fn number_before(v: usize) -> usize
+    ensures { λ r. ⌜ r ≡ v - 1 ⌝ }
+{
+    if v == 0 {
+        return 0;
+    }
+    v - 1
 }
 
 pub(crate) fn views_fine(
@@ -170,7 +167,10 @@ pub(crate) fn views_fine(
     let mut v: usize = 0;
     while v < 32 {
         let w = views[v];
-        let fine = view_fine(stores, actors, made, views, queues, v, w);
+        let sender = views[number_before(v)];
+        // Of an actor that is none any queue may be read: the test looks at the actor first.
+        let own = queues[w.actor as usize % 8];
+        let fine = view_fine(stores, actors, made, sender.actor, own, v, w);
         if !fine {
             return false;
         }

@@ -54,11 +54,11 @@ MadeFacts actors made sender v w =
     (v < made * 2 → ((w .actor < actors) × (w .phase ≤ 5)) × ((v % 2 ≡ 0 → 1 ≤ w .phase) × (1 ≤ v % 2 → (w .causes ≡ 0) × (w .actor ≡ sender → ⊥))))
     × (made * 2 ≤ v → (w .actor ≡ 0) × (w .phase ≡ 0))
 
-made-says : (actors made : ℕ) (views : List View) (v : ℕ) (w : View) → Says (madeView actors made views v w) (MadeFacts actors made (getD views (v - 1) noView .actor) v w)
-made-says actors made views v w =
+made-says : (actors made sender v : ℕ) (w : View) → Says (madeView actors made sender v w) (MadeFacts actors made sender v w)
+made-says actors made sender v w =
     pick-says (lt-splits v (made * 2))
     (and-says (and-says (lt-says (w .actor) actors) (le-says (w .phase) 5))
-    (pick-says (zero-splits (v % 2)) (le-says 1 (w .phase)) (and-says (eq-says (w .causes) 0) (not-says (eq-splits (w .actor) (getD views (v - 1) noView .actor))))))
+    (pick-says (zero-splits (v % 2)) (le-says 1 (w .phase)) (and-says (eq-says (w .causes) 0) (not-says (eq-splits (w .actor) sender)))))
     (and-says (eq-says (w .actor) 0) (eq-says (w .phase) 0))
 
 -- phases 1 to 4
@@ -82,7 +82,7 @@ module _ (stores actors made : ℕ) (views : List View) (queues : List Queue) (v
   view-facts : Says (viewFine stores actors made views queues v w) ViewFacts
   unfolding viewFine
   view-facts =
-      and-says (and-says (and-says (links-says stores (v / 2) (w .causes) (w .links)) (phase-says stores w)) (made-says actors made views v w)) (queued-says queues v w)
+      and-says (and-says (and-says (links-says stores (v / 2) (w .causes) (w .links)) (phase-says stores w)) (made-says actors made (getD views (v - 1) noView .actor) v w)) (queued-says queues v w)
 
   view-slot : ViewFacts → ViewKept
   view-slot x =

@@ -1,6 +1,5 @@
 -- The four parts of the test of a view. Assumes nothing.
 use borrow.Author.Needs.{needs}
-use Rattle.machine.specs.Broken.{viewFine}
 use Rattle.machine.proofs.views.view_fine.Statement.{statement}
 use Rattle.machine.proofs.views.view_fine.Tie as tie
 
@@ -26,10 +25,17 @@ both-requires-3 : tie.Need-both-requires-3
 both-requires-3 c κs = search needs
 
 returns : tie.Need-returns
-unfolding viewFine
 returns c = cc
 
 pub view-fine-spec : {M : Type 1} → statement M
 view-fine-spec =
-    tie.close (tie.spec links-fine-requires phase-fine-requires both-requires made-view-requires
-    both-requires-2 queued-once-requires both-requires-3 returns)
+    tie.close
+    (tie.spec
+    links-fine-requires
+    phase-fine-requires
+    both-requires
+    made-view-requires
+    both-requires-2
+    queued-once-requires
+    both-requires-3
+    returns)
