@@ -1,7 +1,7 @@
 -- A loop that tests the places of an array, or the numbers below n, and leaves at the first that fails, computes `all p l`, or `allBelow n p`.
--- The invariant says what is left of the list, or what was passed. Assumes nothing.
+-- It may pass over blanks, or leave at no test. The invariant says what is left of the list, or what was passed. Assumes nothing.
 use Prim.Native.Nat.{ℕ, zero, suc, _+_, _≤_, _<_}
-use mathlib.Core.Path.{_≡_, refl, sym, ap, _∙_}
+use mathlib.Core.Path.{_≡_, refl, sym, ap, subst, _∙_}
 use mathlib.Core.Bool.{Bool, true, false, _&&_}
 use mathlib.Core.List.{List}
 use native.Mathlib.Numerals.{add-one}
@@ -69,3 +69,29 @@ fails (suc n) p i b e =
 
 pub below-stop : {n : ℕ} {p : ℕ → Bool} {i : ℕ} → Below n p i → i < n → p i ≡ false → false ≡ allBelow n p
 below-stop {n} {p} {i} h b e = sym (fails n p i b e)
+
+-- places that are blank are passed together, where a blank passes
+pub pass-blank : {A : Type 0} {d : A} {p : ℕ → A → Bool} {l : List A} {n i : ℕ} (j : ℕ) → Passed d p l n i → i ≤ j → j ≤ n → ((k : ℕ) → i ≤ k → k < j → getD l k d ≡ d) → ((k : ℕ) → p k d ≡ true) → Passed d p l n j
+pass-blank {A} {d} {p} {l} {n} {i} zero h low high blank fine = let e : i ≡ 0 = omega arith in subst (λ (k : ℕ). Passed d p l n k) e h
+pass-blank {A} {d} {p} {l} {n} {i} (suc j) h low high blank fine =
+    elim (decLt j i) [
+      | yes q ↦ (let e : i ≡ suc j = omega arith in subst (λ (k : ℕ). Passed d p l n k) e h)
+      | no q ↦ (let e : j + 1 ≡ suc j = omega arith in let b : i ≤ j = omega arith in
+          subst (λ (k : ℕ). Passed d p l n k) e (pass-step (pass-blank j h b (omega arith) (λ k x y. blank k x (omega arith)) fine) (omega arith) (ap (p j) (blank j b (omega arith)) ∙ fine j)))
+    ]
+
+-- a loop that leaves at no test: t says whether p holds of the i numbers that are passed
+pub record Tallied (n : ℕ) (p : ℕ → Bool) (i : ℕ) (t : Bool) : Type 0 where
+  pub low : i ≤ n
+  pub same : t ≡ allBelow i p
+
+pub tally-start : (n : ℕ) (p : ℕ → Bool) → Tallied n p 0 true
+unfolding allBelow
+tally-start n p = record { low = omega arith; same = refl }
+
+pub tally-step : {n : ℕ} {p : ℕ → Bool} {i : ℕ} {t u : Bool} → Tallied n p i t → i < n → u ≡ (t && p i) → Tallied n p (i + 1) u
+unfolding allBelow
+tally-step {n} {p} {i} h b e = record { low = omega arith; same = rw add-one (e ∙ ap (λ (t : Bool). t && p i) (h .same)) }
+
+pub tally-end : {n : ℕ} {p : ℕ → Bool} {i : ℕ} {t : Bool} → Tallied n p i t → n ≤ i → t ≡ allBelow n p
+tally-end {n} {p} {i} h b = h .same ∙ ap (λ (k : ℕ). allBelow k p) (le-antisymm (h .low) b)

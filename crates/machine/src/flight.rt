@@ -5,6 +5,7 @@ use super::Message;
 use super::Repair;
 use super::View;
 use super::broken::both;
+use super::places::past_blank;
 use super::status_number;
 ghost use mathlib.Core.Path.{_≡_};
 ghost use mathlib.Core.Bool.{_&&_, not};
@@ -114,12 +115,17 @@ pub(crate) fn records_fine(stores: u8, views: [View; 32], copies: [u8; 256]) -> 
 {
     let mut at: usize = 0;
     while at < 256 {
-        let w = views[at % 32];
-        let fine = copies_fine(stores, 2 <= w.phase, at, copies[at]);
-        if !fine {
-            return false;
+        let next = past_blank(&copies, at);
+        if at < next {
+            at = next;
+        } else {
+            let w = views[at % 32];
+            let fine = copies_fine(stores, 2 <= w.phase, at, copies[at]);
+            if !fine {
+                return false;
+            }
+            at += 1;
         }
-        at += 1;
     }
     true
 }
@@ -129,12 +135,17 @@ pub(crate) fn updates_fine(stores: u8, entries: [Entry; 32], copies: [u8; 256]) 
 {
     let mut at: usize = 0;
     while at < 256 {
-        let e = entries[at % 32];
-        let fine = copies_fine(stores, has_entry(e), at, copies[at]);
-        if !fine {
-            return false;
+        let next = past_blank(&copies, at);
+        if at < next {
+            at = next;
+        } else {
+            let e = entries[at % 32];
+            let fine = copies_fine(stores, has_entry(e), at, copies[at]);
+            if !fine {
+                return false;
+            }
+            at += 1;
         }
-        at += 1;
     }
     true
 }

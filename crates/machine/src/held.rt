@@ -4,6 +4,7 @@ use super::Contents;
 use super::Links;
 use super::View;
 use super::broken::both;
+use super::places::past_blank;
 ghost use mathlib.Core.Path.{_≡_};
 ghost use mathlib.Core.Bool.{_&&_};
 ghost use lib.Dec.{eqb};
@@ -74,7 +75,7 @@ fn same_links(a: [u8; 16], b: [u8; 16]) -> bool
     true
 }
 
-fn blank_links(links: [u8; 16]) -> bool
+pub(crate) fn blank_links(links: [u8; 16]) -> bool
     ensures { λ r. ⌜ r ≡ all (λ j link. eqb link 0) links ⌝ }
 {
     let mut j: usize = 0;
@@ -137,11 +138,16 @@ pub(crate) fn viewlinks_fine(stores: u8, made: u8, viewlinks: [u8; 256]) -> bool
 {
     let mut at: usize = 0;
     while at < 256 {
-        let fine = viewlink_fine(stores, made, at, viewlinks[at]);
-        if !fine {
-            return false;
+        let next = past_blank(&viewlinks, at);
+        if at < next {
+            at = next;
+        } else {
+            let fine = viewlink_fine(stores, made, at, viewlinks[at]);
+            if !fine {
+                return false;
+            }
+            at += 1;
         }
-        at += 1;
     }
     true
 }

@@ -6,6 +6,7 @@ mod broken;
 mod flight;
 mod fresh;
 mod held;
+mod places;
 mod queues;
 mod views;
 

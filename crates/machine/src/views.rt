@@ -3,6 +3,7 @@
 use super::Queue;
 use super::View;
 use super::broken::both;
+use super::held::blank_links;
 ghost use mathlib.Core.Path.{_≡_};
 ghost use mathlib.Core.Bool.{_&&_, _||_, not};
 ghost use Prim.Native.Nat.{_≤_, _<_, _-_, _/_};
@@ -28,6 +29,10 @@ fn link_fine(stores: u8, key: usize, causes: u16, j: usize, link: u8) -> bool
 fn links_fine(stores: u8, key: usize, causes: u16, links: [u8; 16]) -> bool
     ensures { λ r. ⌜ r ≡ linksFine stores key causes links ⌝ }
 {
+    // Most views have no cause: then the sixteen are tested at once.
+    if causes == 0 {
+        return blank_links(links);
+    }
     let mut j: usize = 0;
     while j < 16 {
         let fine = link_fine(stores, key, causes, j, links[j]);

@@ -1,6 +1,6 @@
--- The loop leaves at the first place with copies of a view that may have none. Assumes nothing.
+-- The loop passes over blanks and leaves at the first place with copies of a view in phase 0 or 1. Assumes nothing.
 use Prim.Native.Nat.{_-_}
-use mathlib.Core.Path.{sym, _∙_}
+use mathlib.Core.Path.{refl, sym, _∙_}
 use native.Mathlib.Omega.{arith}
 use borrow.Author.Needs.{needs}
 use borrow.Author.Tests.{not-true, not-false}
@@ -8,7 +8,7 @@ use lib.Dec.{leb}
 use lib.ListN.{getD}
 use Rattle.machine.specs.Slots.{noView}
 use Rattle.machine.specs.Broken.{copiesFine, recordsFine}
-use Rattle.machine.proofs.Pass.{Passed, pass-start, pass-step, pass-stop, pass-end}
+use Rattle.machine.proofs.Pass.{Passed, pass-start, pass-step, pass-stop, pass-end, pass-blank}
 use Rattle.machine.proofs.flight.records_fine.Statement.{statement}
 use Rattle.machine.proofs.flight.records_fine.Tie as tie
 
@@ -20,6 +20,17 @@ abbrev μ-loop : tie.MeasureT-loop
 
 loop-holds : tie.Need-loop-holds Inv-loop μ-loop
 loop-holds c = pass-start _ _ _ _ (search needs)
+
+past-blank-requires : tie.Need-past-blank-requires Inv-loop μ-loop
+past-blank-requires c κs = search needs
+
+loop-less : tie.Need-loop-less Inv-loop μ-loop
+loop-less c = omega arith
+
+loop-again : tie.Need-loop-again Inv-loop μ-loop
+loop-again c =
+    let next = c .before .past-blank .ensures in
+    pass-blank _ (c .before .before .before .before .loop .inv) (next .0) (next .1 .0) (next .1 .1) (λ k. refl)
 
 mul-w : tie.Need-mul-w Inv-loop μ-loop
 mul-w c = omega arith
@@ -36,19 +47,19 @@ copies-fine-requires c κs = search needs
 returns : tie.Need-returns Inv-loop μ-loop
 unfolding recordsFine
 returns c =
-    pass-stop (c .before .before .before .before .before .loop .inv) (c .before .before .before .before .loop-test .taken)
-    (sym (c .before .copies-fine .ensures) ∙ not-true _ (c .if1 .taken))
+    pass-stop (c .before .before .before .before .before .before .before .before .loop .inv) (c .before .before .before .before .before .before .before .loop-test .taken)
+    (sym (c .before .copies-fine .ensures) ∙ not-true _ (c .if2 .taken))
 
 add-at : tie.Need-add-at Inv-loop μ-loop
 add-at c = omega arith
 
-loop-less : tie.Need-loop-less Inv-loop μ-loop
-loop-less c = omega arith
+loop-less-2 : tie.Need-loop-less-2 Inv-loop μ-loop
+loop-less-2 c = omega arith
 
-loop-again : tie.Need-loop-again Inv-loop μ-loop
-loop-again c =
-    pass-step (c .before .before .before .before .before .loop .inv) (c .before .before .before .before .loop-test .taken)
-    (sym (c .before .copies-fine .ensures) ∙ not-false _ (c .if1 .left))
+loop-again-2 : tie.Need-loop-again-2 Inv-loop μ-loop
+loop-again-2 c =
+    pass-step (c .before .before .before .before .before .before .before .before .loop .inv) (c .before .before .before .before .before .before .before .loop-test .taken)
+    (sym (c .before .copies-fine .ensures) ∙ not-false _ (c .if2 .left))
 
 returns-2 : tie.Need-returns-2 Inv-loop μ-loop
 unfolding recordsFine
@@ -56,5 +67,6 @@ returns-2 c = pass-end (c .before .loop .inv) (c .loop-test .left)
 
 pub records-fine-spec : {M : Type 1} → statement M
 records-fine-spec =
-    tie.close (tie.spec Inv-loop μ-loop loop-holds mul-w array-copy-out-w array-read-copies-fine
-    copies-fine-requires returns add-at loop-less loop-again returns-2)
+    tie.close (tie.spec Inv-loop μ-loop loop-holds past-blank-requires loop-less loop-again mul-w
+    array-copy-out-w array-read-copies-fine copies-fine-requires returns add-at loop-less-2 loop-again-2
+    returns-2)

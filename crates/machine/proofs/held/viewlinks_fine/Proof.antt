@@ -1,11 +1,11 @@
--- The loop leaves at the first viewlink that breaks the machine. Assumes nothing.
+-- The loop passes over blanks and leaves at the first viewlink that breaks the machine. Assumes nothing.
 use Prim.Native.Nat.{_-_}
-use mathlib.Core.Path.{sym, _∙_}
+use mathlib.Core.Path.{refl, sym, _∙_}
 use native.Mathlib.Omega.{arith}
 use borrow.Author.Needs.{needs}
 use borrow.Author.Tests.{not-true, not-false}
 use Rattle.machine.specs.Broken.{viewlinkFine, viewlinksFine}
-use Rattle.machine.proofs.Pass.{Passed, pass-start, pass-step, pass-stop, pass-end}
+use Rattle.machine.proofs.Pass.{Passed, pass-start, pass-step, pass-stop, pass-end, pass-blank}
 use Rattle.machine.proofs.held.viewlinks_fine.Statement.{statement}
 use Rattle.machine.proofs.held.viewlinks_fine.Tie as tie
 
@@ -18,6 +18,17 @@ abbrev μ-loop : tie.MeasureT-loop
 loop-holds : tie.Need-loop-holds Inv-loop μ-loop
 loop-holds c = pass-start _ _ _ _ (search needs)
 
+past-blank-requires : tie.Need-past-blank-requires Inv-loop μ-loop
+past-blank-requires c κs = search needs
+
+loop-less : tie.Need-loop-less Inv-loop μ-loop
+loop-less c = omega arith
+
+loop-again : tie.Need-loop-again Inv-loop μ-loop
+loop-again c =
+    let next = c .before .past-blank .ensures in
+    pass-blank _ (c .before .before .before .before .loop .inv) (next .0) (next .1 .0) (next .1 .1) (λ k. refl)
+
 array-read-viewlink-fine : tie.Need-array-read-viewlink-fine Inv-loop μ-loop
 array-read-viewlink-fine c = omega arith
 
@@ -27,19 +38,19 @@ viewlink-fine-requires c κs = search needs
 returns : tie.Need-returns Inv-loop μ-loop
 unfolding viewlinksFine
 returns c =
-    pass-stop (c .before .before .before .loop .inv) (c .before .before .loop-test .taken)
-    (sym (c .before .viewlink-fine .ensures) ∙ not-true _ (c .if1 .taken))
+    pass-stop (c .before .before .before .before .before .before .loop .inv) (c .before .before .before .before .before .loop-test .taken)
+    (sym (c .before .viewlink-fine .ensures) ∙ not-true _ (c .if2 .taken))
 
 add-at : tie.Need-add-at Inv-loop μ-loop
 add-at c = omega arith
 
-loop-less : tie.Need-loop-less Inv-loop μ-loop
-loop-less c = omega arith
+loop-less-2 : tie.Need-loop-less-2 Inv-loop μ-loop
+loop-less-2 c = omega arith
 
-loop-again : tie.Need-loop-again Inv-loop μ-loop
-loop-again c =
-    pass-step (c .before .before .before .loop .inv) (c .before .before .loop-test .taken)
-    (sym (c .before .viewlink-fine .ensures) ∙ not-false _ (c .if1 .left))
+loop-again-2 : tie.Need-loop-again-2 Inv-loop μ-loop
+loop-again-2 c =
+    pass-step (c .before .before .before .before .before .before .loop .inv) (c .before .before .before .before .before .loop-test .taken)
+    (sym (c .before .viewlink-fine .ensures) ∙ not-false _ (c .if2 .left))
 
 returns-2 : tie.Need-returns-2 Inv-loop μ-loop
 unfolding viewlinksFine
@@ -47,5 +58,5 @@ returns-2 c = pass-end (c .before .loop .inv) (c .loop-test .left)
 
 pub viewlinks-fine-spec : {M : Type 1} → statement M
 viewlinks-fine-spec =
-    tie.close (tie.spec Inv-loop μ-loop loop-holds array-read-viewlink-fine viewlink-fine-requires returns
-    add-at loop-less loop-again returns-2)
+    tie.close (tie.spec Inv-loop μ-loop loop-holds past-blank-requires loop-less loop-again
+    array-read-viewlink-fine viewlink-fine-requires returns add-at loop-less-2 loop-again-2 returns-2)
