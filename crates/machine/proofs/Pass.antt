@@ -11,6 +11,7 @@ use native.Mathlib.Decide.{decLt}
 use lib.ListN.{length, drop, getD, drop-of-length-le}
 use lib.Seq.{drop-cons}
 use Rattle.machine.specs.Words.{allFrom, all, allBelow}
+use Rattle.machine.proofs.Laws.Every.{all-at, all-each, below-at, below-each}
 
 -- i places of l, which has n, are passed: the test of the rest gives the test of all
 pub record Passed {A : Type 0} (d : A) (p : ℕ → A → Bool) (l : List A) (n i : ℕ) : Type 0 where
@@ -95,3 +96,16 @@ tally-step {n} {p} {i} h b e = record { low = omega arith; same = rw add-one (e 
 
 pub tally-end : {n : ℕ} {p : ℕ → Bool} {i : ℕ} {t : Bool} → Tallied n p i t → n ≤ i → t ≡ allBelow n p
 tally-end {n} {p} {i} h b = h .same ∙ ap (λ (k : ℕ). allBelow k p) (le-antisymm (h .low) b)
+
+-- the same of the places of a list that has n
+both-ways : (a b : Bool) → (a ≡ true → b ≡ true) → (b ≡ true → a ≡ true) → a ≡ b
+both-ways true b f g = sym (f refl)
+both-ways false true f g = g refl
+both-ways false false f g = refl
+
+pub tally-all : {A : Type 0} (d : A) (p : ℕ → A → Bool) (l : List A) {n i : ℕ} {t : Bool} → length l ≡ n → Tallied n (λ j. p j (getD l j d)) i t → n ≤ i → t ≡ all p l
+tally-all d p l {n} {i} long h b =
+    let q : ℕ → Bool = λ j. p j (getD l j d) in
+    tally-end h b ∙ both-ways (allBelow n q) (all p l)
+    (λ e. all-each p l d (λ j k. below-at n q e j (omega (arith, long))))
+    (λ e. below-each n q (λ j k. all-at p l d e j (omega (arith, long))))

@@ -62,30 +62,29 @@ pub(crate) fn all_contents_fine(stores: u8, views: [View; 32], contents: [Conten
     true
 }
 
+// This loop and the next leave at no test, so that they run on all sixteen at once.
 fn same_links(a: [u8; 16], b: [u8; 16]) -> bool
     ensures { λ r. ⌜ r ≡ sameLinks a b ⌝ }
 {
+    let mut same = true;
     let mut j: usize = 0;
     while j < 16 {
-        if a[j] != b[j] {
-            return false;
-        }
+        same = both(same, a[j] == b[j]);
         j += 1;
     }
-    true
+    same
 }
 
 pub(crate) fn blank_links(links: [u8; 16]) -> bool
     ensures { λ r. ⌜ r ≡ all (λ j link. eqb link 0) links ⌝ }
 {
+    let mut blank = true;
     let mut j: usize = 0;
     while j < 16 {
-        if links[j] != 0 {
-            return false;
-        }
+        blank = both(blank, links[j] == 0);
         j += 1;
     }
-    true
+    blank
 }
 
 // The links of a sender's contents are its record's, and blank where no contents are.

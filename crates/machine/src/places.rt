@@ -7,7 +7,7 @@ ghost use lib.Dec.{eqb};
 ghost use lib.ListN.{getD};
 ghost use Rattle.machine.specs.Words.{allBelow};
 
-// No test leaves the loop, so that it runs on many places at once.
+// The loop leaves at no test, so that it runs on many places at once.
 fn store_blank(places: &[u8; 256], from: usize) -> bool
     requires { ⌜ from ≤ 224 ⌝ }
     ensures { λ r. ⌜ r ≡ allBelow 32 (λ v. eqb (getD (now (places .entry)) (from + v) 0) 0) ⌝ }
@@ -21,7 +21,7 @@ fn store_blank(places: &[u8; 256], from: usize) -> bool
     blank
 }
 
-// Where the blank places from here on end, or here.
+// The first place of a store whose places are all blank gives the next store's, any other place itself.
 pub(crate) fn past_blank(places: &[u8; 256], at: usize) -> usize
     requires { ⌜ at < 256 ⌝ }
     ensures ahead { λ r. ⌜ at ≤ r ⌝ }

@@ -1,29 +1,27 @@
--- The loop leaves at the first link that is not blank. Assumes nothing.
+-- The loop tallies the links that are blank. Assumes nothing.
 use Prim.Native.Nat.{_-_}
 use native.Mathlib.Omega.{arith}
 use borrow.Author.Needs.{needs}
 use lib.Dec.{eqb}
-use Rattle.machine.proofs.Tests.{tests}
-use Rattle.machine.proofs.Pass.{Passed, pass-start, pass-step, pass-stop, pass-end}
+use lib.ListN.{getD}
+use Rattle.machine.proofs.Pass.{Tallied, tally-start, tally-step, tally-all}
 use Rattle.machine.proofs.held.blank_links.Statement.{statement}
 use Rattle.machine.proofs.held.blank_links.Tie as tie
 
 abbrev Inv-loop : tie.InvT-loop
-Inv-loop links j₀ j = Passed 0 (λ j link. eqb link 0) links 16 j
+Inv-loop links blank₀ j₀ blank j = Tallied 16 (λ k. eqb (getD links k 0) 0) j blank
 
 abbrev μ-loop : tie.MeasureT-loop
-μ-loop links j₀ j = 16 - j
+μ-loop links blank₀ j₀ blank j = 16 - j
 
 loop-holds : tie.Need-loop-holds Inv-loop μ-loop
-loop-holds c = pass-start _ _ _ _ (search needs)
+loop-holds c = tally-start _ _
 
-array-read-if1 : tie.Need-array-read-if1 Inv-loop μ-loop
-array-read-if1 c = omega arith
+array-read-both : tie.Need-array-read-both Inv-loop μ-loop
+array-read-both c = omega arith
 
-returns : tie.Need-returns Inv-loop μ-loop
-returns c =
-    pass-stop (c .before .before .loop .inv) (c .before .loop-test .taken)
-    (search tests)
+both-requires : tie.Need-both-requires Inv-loop μ-loop
+both-requires c κs = search needs
 
 add-j : tie.Need-add-j Inv-loop μ-loop
 add-j c = omega arith
@@ -32,14 +30,11 @@ loop-less : tie.Need-loop-less Inv-loop μ-loop
 loop-less c = omega arith
 
 loop-again : tie.Need-loop-again Inv-loop μ-loop
-loop-again c =
-    pass-step (c .before .before .loop .inv) (c .before .loop-test .taken)
-    (search tests)
+loop-again c = tally-step (c .before .before .loop .inv) (c .before .loop-test .taken) (c .both .ensures)
 
-returns-2 : tie.Need-returns-2 Inv-loop μ-loop
-returns-2 c = pass-end (c .before .loop .inv) (c .loop-test .left)
+returns : tie.Need-returns Inv-loop μ-loop
+returns c = tally-all 0 _ _ (search needs) (c .before .loop .inv) (c .loop-test .left)
 
 pub blank-links-spec : {M : Type 1} → statement M
 blank-links-spec =
-    tie.close (tie.spec Inv-loop μ-loop loop-holds array-read-if1 returns add-j loop-less loop-again
-    returns-2)
+    tie.close (tie.spec Inv-loop μ-loop loop-holds array-read-both both-requires add-j loop-less loop-again returns)
