@@ -16,7 +16,8 @@ ghost use mathlib.Core.Bool.{_||_};
 ghost use Prim.Native.Nat.{_≤_};
 ghost use lib.Dec.{leb, ltb};
 ghost use Rattle.machine.specs.Words.{pick, table};
-ghost use Rattle.machine.specs.Setup.{storesIn, legalActor, legalActors, legal, ofActors, freshWith, emptyMachine, setupOf};
+ghost use Rattle.machine.specs.Slots.{noMessage, noRepair, noEntry, noContents};
+ghost use Rattle.machine.specs.Setup.{storesIn, legalActor, legalActors, legal, blankView, blankQueue, ofActors, freshWith, emptyMachine, setupOf};
 
 // How many stores a list has.
 fn stores_in(list: u8) -> u8
@@ -127,20 +128,20 @@ fn all_up(stores: u8) -> [bool; 8]
     up
 }
 
-fn fresh(stores: u8, actors: u8, homes: [u8; 8], lists: [u8; 8]) -> Machine
-    ensures { λ r. ⌜ r ≡ freshWith stores actors homes lists ⌝ }
+// A blank of each kind of slot.
+fn blank_queue() -> Queue
+    ensures { λ r. ⌜ r ≡ blankQueue ⌝ }
 {
-    let none = [0u8; 16];
-    let queue = Queue {
+    Queue {
         len: 0,
-        views: none,
-    };
-    let message = Message {
-        flying: false,
-        own: 0,
-        word: 0,
-    };
-    let view = View {
+        views: [0; 16],
+    }
+}
+
+fn blank_view() -> View
+    ensures { λ r. ⌜ r ≡ blankView ⌝ }
+{
+    View {
         actor: 0,
         phase: 0,
         store: 0,
@@ -148,25 +149,61 @@ fn fresh(stores: u8, actors: u8, homes: [u8; 8], lists: [u8; 8]) -> Machine
         changed: false,
         causes: 0,
         word: 0,
-        links: none,
-    };
-    let repair = Repair {
+        links: [0; 16],
+    }
+}
+
+fn no_message() -> Message
+    ensures { λ r. ⌜ r ≡ noMessage ⌝ }
+{
+    Message {
+        flying: false,
+        own: 0,
+        word: 0,
+    }
+}
+
+fn no_repair() -> Repair
+    ensures { λ r. ⌜ r ≡ noRepair ⌝ }
+{
+    Repair {
         flying: false,
         destination: 0,
         own: 0,
-    };
-    let entry = Entry {
+    }
+}
+
+fn no_entry() -> Entry
+    ensures { λ r. ⌜ r ≡ noEntry ⌝ }
+{
+    Entry {
         status: Status::Nothing,
         destination: 0,
         own: 0,
-    };
-    let contents = Contents {
+    }
+}
+
+fn no_contents() -> Contents
+    ensures { λ r. ⌜ r ≡ noContents ⌝ }
+{
+    Contents {
         held: false,
         asserter: 0,
         causes: 0,
         word: 0,
-    };
-    let links = Links { to: none };
+    }
+}
+
+fn fresh(stores: u8, actors: u8, homes: [u8; 8], lists: [u8; 8]) -> Machine
+    ensures { λ r. ⌜ r ≡ freshWith stores actors homes lists ⌝ }
+{
+    let queue = blank_queue();
+    let message = no_message();
+    let view = blank_view();
+    let repair = no_repair();
+    let entry = no_entry();
+    let contents = no_contents();
+    let links = Links { to: [0; 16] };
     Machine {
         stores: stores,
         actors: actors,

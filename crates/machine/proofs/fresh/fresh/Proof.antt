@@ -4,6 +4,24 @@ use Rattle.machine.specs.Setup.{freshWith}
 use Rattle.machine.proofs.fresh.fresh.Statement.{statement}
 use Rattle.machine.proofs.fresh.fresh.Tie as tie
 
+blank-queue-requires : tie.Need-blank-queue-requires
+blank-queue-requires c κs = search needs
+
+no-message-requires : tie.Need-no-message-requires
+no-message-requires c κs = search needs
+
+blank-view-requires : tie.Need-blank-view-requires
+blank-view-requires c κs = search needs
+
+no-repair-requires : tie.Need-no-repair-requires
+no-repair-requires c κs = search needs
+
+no-entry-requires : tie.Need-no-entry-requires
+no-entry-requires c κs = search needs
+
+no-contents-requires : tie.Need-no-contents-requires
+no-contents-requires c κs = search needs
+
 rows-requires : tie.Need-rows-requires
 rows-requires c κs = search needs
 
@@ -15,7 +33,20 @@ all-up-requires c κs = search needs
 
 returns : tie.Need-returns
 unfolding freshWith
-returns c = simp (c .before .before .rows .ensures, c .before .rows2 .ensures, c .all-up .ensures)
+returns c =
+    simp (
+      c .before .before .before .before .before .before .before .before .blank-queue .ensures,
+      c .before .before .before .before .before .before .before .no-message .ensures,
+      c .before .before .before .before .before .before .blank-view .ensures,
+      c .before .before .before .before .before .no-repair .ensures,
+      c .before .before .before .before .no-entry .ensures,
+      c .before .before .before .no-contents .ensures,
+      c .before .before .rows .ensures,
+      c .before .rows2 .ensures,
+      c .all-up .ensures,
+    )
 
 pub fresh-spec : {M : Type 1} → statement M
-fresh-spec = tie.close (tie.spec rows-requires rows-requires-2 all-up-requires returns)
+fresh-spec =
+    tie.close (tie.spec blank-queue-requires no-message-requires blank-view-requires no-repair-requires
+    no-entry-requires no-contents-requires rows-requires rows-requires-2 all-up-requires returns)
