@@ -1,6 +1,6 @@
--- A read past the slots gives the slot that stands for none. So a test that this one fails is made of the slot that is
--- found by the remainder, where the number is a slot's. By cases; assumes nothing.
-use Prim.Native.Nat.{ℕ, _-_, _/_, _%_, _<_, _≤_}
+-- The code reads an array at a remainder and asks beside it whether the number is a slot's, where the definitions read past the
+-- slots, which gives the slot of none. The two agree in a test that the slot of none fails. By cases; assumes nothing.
+use Prim.Native.Nat.{ℕ, _-_, _/_, _%_, _≤_}
 use mathlib.Core.Path.{_≡_, refl, sym, ap, _∙_}
 use mathlib.Core.Bool.{Bool, false, _&&_, _||_, not}
 use mathlib.Core.List.{List}
@@ -17,7 +17,7 @@ use Rattle.machine.specs.declared.View.{View}
 use Rattle.machine.specs.declared.Queue.{Queue}
 use Rattle.machine.proofs.Pass.{and-false}
 
-pub in-slots : {A : Type 0} (test : A → Bool) (l : List A) (d : A) (n i : ℕ) → length l ≡ n → test d ≡ false → (ltb i n && test (getD l (i % n) d)) ≡ test (getD l i d)
+in-slots : {A : Type 0} (test : A → Bool) (l : List A) (d : A) (n i : ℕ) → length l ≡ n → test d ≡ false → (ltb i n && test (getD l (i % n) d)) ≡ test (getD l i d)
 in-slots test l d n i long none =
     elim (decLt i n) [
       | yes q ↦ rw (lt-ltb i n q) (ap (λ (j : ℕ). test (getD l j d)) (mod-eq-of-lt q))
