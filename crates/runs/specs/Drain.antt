@@ -54,12 +54,17 @@ otherIn listed current p = bit listed p && not (eqb current p)
 abbrev pub spare : Machine → ℕ → ℕ
 spare m a = lowest (m .stores) (otherIn (list m a) (headView m a .store))
 
+-- for the head v of actor a, current store p, copies in flight there
+abbrev pub awaitingIn : (stores listed a v p acks records : ℕ) → Step
+awaitingIn stores listed a v p acks records =
+    pick (not (eqb acks 0)) (TakeAck p (keyOf v) (roleOf v))
+    (pick (not (eqb records 0)) (TakeRecord p (keyOf v) (roleOf v)) (Timeout a (lowest stores (otherIn listed p))))
+
 abbrev pub awaiting : Machine → ℕ → Step
 awaiting m a =
     let v = head m a in
     let p = headView m a .store in
-    pick (not (eqb (ackCopies m p v) 0)) (TakeAck p (keyOf v) (roleOf v))
-    (pick (not (eqb (recordCopies m p v) 0)) (TakeRecord p (keyOf v) (roleOf v)) (Timeout a (spare m a)))
+    awaitingIn (m .stores) (list m a) a v p (ackCopies m p v) (recordCopies m p v)
 
 -- phase 1 pre-check, phase 2 send, phase 4 post-check
 unfoldable pub jobStep : Machine → ℕ → Step
@@ -87,12 +92,17 @@ unfinished m v = unfinishedIn (m .entries) v
 abbrev pub entryDue : Machine → ℕ
 entryDue m = lowest (m .made * 2) (unfinished m)
 
+-- for the entry e of view v, copies in flight at its destination
+abbrev pub entryIn : ℕ → Entry → (uacks updates : ℕ) → Step
+entryIn v e uacks updates =
+    pick (eqb (statusNumber (e .status)) 1) (SendUpdate (keyOf v) (roleOf v))
+    (pick (not (eqb uacks 0)) (TakeUack (e .destination) (keyOf v) (roleOf v))
+    (pick (not (eqb updates 0)) (TakeUpdate (e .destination) (keyOf v) (roleOf v)) (Expire (keyOf v) (roleOf v))))
+
 unfoldable pub entryStep : Machine → ℕ → Step
 entryStep m v =
     let p = entry m v .destination in
-    pick (eqb (statusNumber (entry m v .status)) 1) (SendUpdate (keyOf v) (roleOf v))
-    (pick (not (eqb (uackCopies m p v) 0)) (TakeUack p (keyOf v) (roleOf v))
-    (pick (not (eqb (updateCopies m p v) 0)) (TakeUpdate p (keyOf v) (roleOf v)) (Expire (keyOf v) (roleOf v))))
+    entryIn v (entry m v) (uackCopies m p v) (updateCopies m p v)
 
 -- each time the first that applies: (a), (b), then what the coordinator does, (c) and (d)
 abbrev pub coordinatorTurn : Machine → Turn

@@ -1,14 +1,18 @@
 // The turns of the drain: steps one after another, each the first that applies, until none does.
 ghost use mathlib.Core.Path.{_≡_};
 ghost use mathlib.Core.Bool.{false};
+ghost use lib.ListN.{getD};
 ghost use Prim.Native.Nat.{_*_, _≤_, _<_};
 ghost use Rattle.machine.specs.Words.{all};
 ghost use Rattle.machine.specs.Bounds.{Bounds};
 ghost use Rattle.machine.specs.Broken.{brokenOf};
-ghost use Rattle.runs.specs.Drain.{lowest, unreceivedIn, busyIn, otherIn, awaiting, jobStep, repairIn, isUnfinished, unfinishedIn, entryStep};
+ghost use Rattle.machine.specs.Slots.{place, noQueue, noView, noEntry};
+ghost use Rattle.machine.specs.Writes.{withRecords, withAcks, withUpdates, withUacks};
+ghost use Rattle.runs.specs.Drain.{lowest, unreceivedIn, busyIn, otherIn, awaitingIn, jobStep, repairIn, isUnfinished, unfinishedIn, entryIn};
 ghost use Rattle.runs.specs.Drain.{coordinatorTurn, turnOf, course, upIn, drained};
 use crate::Drained;
 use crate::Turn;
+use machine::Answered;
 use machine::Entry;
 use machine::Machine;
 use machine::Queue;
@@ -76,26 +80,43 @@ fn spare(stores: u8, list: u8, current: u8) -> u8
     p
 }
 
-// The head in phase 3: an ack from the current store, else that store takes a record copy, else timeout to the lowest other
-// store in the list.
-fn awaiting_step(m: Machine, actor: u8) -> Step
-    requires { ⌜ Bounds m ⌝ }
-    requires { ⌜ actor < m .actors ⌝ }
-    ensures { λ r. ⌜ r ≡ awaiting m actor ⌝ }
+// A view's copies in flight at a store.
+fn copies(counts: &[u8; 256], p: u8, v: u8) -> u8
+    requires { ⌜ (p < 8) × (v < 32) ⌝ }
+    ensures { λ r. ⌜ r ≡ getD (now (counts .entry)) (place p v) 0 ⌝ }
 {
-    let q = m.queues[actor as usize];
-    let v = q.views[0];
-    let w = m.views[v as usize];
-    let p = w.store;
-    let at = p as usize * 32 + v as usize;
-    if m.acks[at] != 0 {
+    counts[p as usize * 32 + v as usize]
+}
+
+fn head_of(queues: [Queue; 8], actor: u8) -> u8
+    requires { ⌜ actor < 8 ⌝ }
+    ensures { λ r. ⌜ r ≡ getD (getD queues actor noQueue .views) 0 0 ⌝ }
+{
+    let q = queues[actor as usize];
+    q.views[0]
+}
+
+fn view_of(views: [View; 32], v: u8) -> View
+    requires { ⌜ v < 32 ⌝ }
+    ensures { λ r. ⌜ r ≡ getD views v noView ⌝ }
+{
+    views[v as usize]
+}
+
+// The head v in phase 3, at its current store p: an ack from there, else that store takes a record copy, else timeout to
+// the lowest other store in the list.
+fn awaiting_step(stores: u8, list: u8, actor: u8, v: u8, p: u8, acks: u8, records: u8) -> Step
+    requires { ⌜ stores ≤ 8 ⌝ }
+    ensures { λ r. ⌜ r ≡ awaitingIn stores list actor v p acks records ⌝ }
+{
+    if acks != 0 {
         return Step::TakeAck {
             store: p,
             key: v / 2,
             role: v % 2,
         };
     }
-    if m.records[at] != 0 {
+    if records != 0 {
         return Step::TakeRecord {
             store: p,
             key: v / 2,
@@ -104,18 +125,20 @@ fn awaiting_step(m: Machine, actor: u8) -> Step
     }
     Step::Timeout {
         actor: actor,
-        store: spare(m.stores, m.lists[actor as usize], p),
+        store: spare(stores, list, p),
     }
 }
 
 // The head of the queue: phase 1 pre-check, phase 2 send, phase 4 post-check.
-fn job_step(m: Machine, actor: u8) -> Step
+fn job_step<'a>(m: Machine, acks: &'a [u8; 256], records: &'a [u8; 256], actor: u8) -> Step
     requires { ⌜ Bounds m ⌝ }
     requires { ⌜ actor < m .actors ⌝ }
-    ensures { λ r. ⌜ r ≡ jobStep m actor ⌝ }
+    ensures { λ r. ⌜ r ≡ jobStep (withRecords (withAcks m (now (acks .entry))) (now (records .entry))) actor ⌝ }
 {
-    let q = m.queues[actor as usize];
-    let w = m.views[q.views[0] as usize];
+    let queues = m.queues;
+    let v = head_of(queues, actor);
+    let views = m.views;
+    let w = view_of(views, v);
     if w.phase == 1 {
         return Step::PreCheck { actor: actor };
     }
@@ -125,7 +148,17 @@ fn job_step(m: Machine, actor: u8) -> Step
     if w.phase == 4 {
         return Step::PostCheck { actor: actor };
     }
-    awaiting_step(m, actor)
+    let p = w.store;
+    let lists = m.lists;
+    awaiting_step(
+        m.stores,
+        lists[actor as usize],
+        actor,
+        v,
+        p,
+        copies(acks, p, v),
+        copies(records, p, v),
+    )
 }
 
 // (c) The lowest view with a repair, or `end`.
@@ -173,12 +206,9 @@ fn entry_due(end: u8, entries: [Entry; 32]) -> u8
 }
 
 // To-send: step 10. Waiting: a uack from the destination, else an update there, else step 13.
-fn entry_step(m: Machine, v: u8) -> Step
-    requires { ⌜ Bounds m ⌝ }
-    requires { ⌜ v < 32 ⌝ }
-    ensures { λ r. ⌜ r ≡ entryStep m v ⌝ }
+fn entry_step(v: u8, e: Entry, uacks: u8, updates: u8) -> Step
+    ensures { λ r. ⌜ r ≡ entryIn v e uacks updates ⌝ }
 {
-    let e = m.entries[v as usize];
     let status = e.status;
     let key = v / 2;
     let role = v % 2;
@@ -188,18 +218,16 @@ fn entry_step(m: Machine, v: u8) -> Step
             role: role,
         };
     }
-    let p = e.destination;
-    let at = p as usize * 32 + v as usize;
-    if m.uacks[at] != 0 {
+    if uacks != 0 {
         return Step::TakeUack {
-            store: p,
+            store: e.destination,
             key: key,
             role: role,
         };
     }
-    if m.updates[at] != 0 {
+    if updates != 0 {
         return Step::TakeUpdate {
-            store: p,
+            store: e.destination,
             key: key,
             role: role,
         };
@@ -210,10 +238,17 @@ fn entry_step(m: Machine, v: u8) -> Step
     }
 }
 
+fn entry_of(entries: [Entry; 32], v: u8) -> Entry
+    requires { ⌜ v < 32 ⌝ }
+    ensures { λ r. ⌜ r ≡ getD entries v noEntry ⌝ }
+{
+    entries[v as usize]
+}
+
 // (c) a repair, then (d) an entry.
-fn coordinator_turn(m: Machine) -> Turn
+fn coordinator_turn<'a>(m: Machine, updates: &'a [u8; 256], uacks: &'a [u8; 256]) -> Turn
     requires { ⌜ Bounds m ⌝ }
-    ensures { λ r. ⌜ r ≡ coordinatorTurn m ⌝ }
+    ensures { λ r. ⌜ r ≡ coordinatorTurn (withUacks (withUpdates m (now (updates .entry))) (now (uacks .entry))) ⌝ }
 {
     let end = m.made * 2;
     let repairs = m.repairs;
@@ -227,15 +262,24 @@ fn coordinator_turn(m: Machine) -> Turn
     let entries = m.entries;
     let u = entry_due(end, entries);
     if u < end {
-        return Turn::Take(entry_step(m, u));
+        let e = entry_of(entries, u);
+        let p = e.destination;
+        return Turn::Take(entry_step(u, e, copies(uacks, p, u), copies(updates, p, u)));
     }
     Turn::Rest
 }
 
-// The first step that applies.
-fn turn(m: Machine) -> Turn
+// The first step that applies, with these copies in flight. A machine that is read at a place known only here would be
+// copied first, so it hands over whole arrays, and the counts are lent.
+fn turn<'a>(
+    m: Machine,
+    acks: &'a [u8; 256],
+    records: &'a [u8; 256],
+    updates: &'a [u8; 256],
+    uacks: &'a [u8; 256],
+) -> Turn
     requires { ⌜ Bounds m ⌝ }
-    ensures { λ r. ⌜ r ≡ turnOf m ⌝ }
+    ensures { λ r. ⌜ r ≡ turnOf (withUacks (withUpdates (withRecords (withAcks m (now (acks .entry))) (now (records .entry))) (now (updates .entry))) (now (uacks .entry))) ⌝ }
 {
     let views = m.views;
     let key = unreceived(m.made, views);
@@ -245,9 +289,9 @@ fn turn(m: Machine) -> Turn
     let queues = m.queues;
     let actor = busy(m.actors, queues);
     if actor < m.actors {
-        return Turn::Take(job_step(m, actor));
+        return Turn::Take(job_step(m, acks, records, actor));
     }
-    coordinator_turn(m)
+    coordinator_turn(m, updates, uacks)
 }
 
 // A store of the machine is up; behind the last there is none.
@@ -280,22 +324,32 @@ pub(crate) fn turns(from: Machine) -> Drained
     ensures { λ r. ⌜ r ≡ drained (course (from .made * 18) from) ⌝ }
 {
     let limit = from.made as u16 * 18;
-    let mut m = from;
+    let mut r = Answered {
+        machine: from,
+        answer: 0,
+    };
     let mut count: u16 = 0;
     while count < limit {
-        let t = turn(m);
+        let t = turn(
+            r.machine,
+            &r.machine.acks,
+            &r.machine.records,
+            &r.machine.updates,
+            &r.machine.uacks,
+        );
         let Turn::Take(step) = t else {
+            let m = r.machine;
             return Drained {
                 machine: m,
                 answer: 0,
                 count: count,
             };
         };
-        let r = Recorder { machine: m }.step_unbroken(step);
-        let next = r.machine;
-        m = next;
+        let m = r.machine;
+        r = Recorder { machine: m }.step_unbroken(step);
         count += 1;
     }
+    let m = r.machine;
     Drained {
         machine: m,
         answer: 0,

@@ -1,6 +1,8 @@
 -- Each exit by the tests before it, which speak of the lowest that the searches found. Assumes nothing.
+use native.Mathlib.Omega.{arith}
 use borrow.Author.Tests.{lt-ltb, le-ltb}
 use borrow.Author.Needs.{needs}
+use Rattle.runs.specs.Drain.{entryStep}
 use Rattle.runs.proofs.turns.coordinator_turn.Statement.{statement}
 use Rattle.runs.proofs.turns.coordinator_turn.Tie as tie
 
@@ -16,11 +18,23 @@ returns c = simp (← c .before .repair-due .ensures, lt-ltb _ _ (c .if1 .taken)
 entry-due-requires : tie.Need-entry-due-requires
 entry-due-requires c κs = search needs
 
+entry-of-requires : tie.Need-entry-of-requires
+entry-of-requires c κs = search needs
+
+copies-requires : tie.Need-copies-requires
+copies-requires c κs = (rw (c .entry-of .ensures) (c .before .before .before .before .before .before .before .before .pre .destinationIn8 _ (search needs)), search needs)
+
+copies-requires-2 : tie.Need-copies-requires-2
+copies-requires-2 c κs = (rw (c .before .entry-of .ensures) (c .before .before .before .before .before .before .before .before .before .pre .destinationIn8 _ (search needs)), search needs)
+
 entry-step-requires : tie.Need-entry-step-requires
 entry-step-requires c κs = search needs
 
 returns-2 : tie.Need-returns-2
-returns-2 c = simp (← c .before .before .before .before .before .repair-due .ensures, le-ltb _ _ (c .before .before .before .before .if1 .left), ← c .before .before .entry-due .ensures, lt-ltb _ _ (c .before .if2 .taken), c .entry-step .ensures)
+unfolding entryStep
+returns-2 c =
+    let known = rw (c .before .copies2 .ensures, c .before .before .copies .ensures, c .before .before .before .entry-of .ensures) at (c .entry-step .ensures) in
+    simp (← c .before .before .before .before .before .before .before .before .repair-due .ensures, le-ltb _ _ (c .before .before .before .before .before .before .before .if1 .left), ← c .before .before .before .before .before .entry-due .ensures, lt-ltb _ _ (c .before .before .before .before .if2 .taken), known)
 
 returns-3 : tie.Need-returns-3
 returns-3 c = simp (← c .before .before .before .before .repair-due .ensures, le-ltb _ _ (c .before .before .before .if1 .left), ← c .before .entry-due .ensures, le-ltb _ _ (c .if2 .left))
@@ -33,6 +47,9 @@ coordinator-turn-spec =
     repair-due-requires
     returns
     entry-due-requires
+    entry-of-requires
+    copies-requires
+    copies-requires-2
     entry-step-requires
     returns-2
     returns-3)

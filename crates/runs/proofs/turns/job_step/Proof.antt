@@ -1,62 +1,73 @@
--- By its tests; the head is in bounds. Assumes nothing.
-use mathlib.Core.Path.{_∙_}
+-- By its tests; the head and its current store are in bounds. Assumes nothing.
 use native.Mathlib.Omega.{arith}
-use borrow.Author.Tests.{ne-eqb}
+use borrow.Author.Tests.{eq-eqb, ne-eqb}
 use borrow.Author.Needs.{needs}
-use Rattle.machine.proofs.Tests.{tests}
 use Rattle.runs.specs.Drain.{jobStep}
 use Rattle.runs.proofs.turns.job_step.Statement.{statement}
 use Rattle.runs.proofs.turns.job_step.Tie as tie
 
-mul-q : tie.Need-mul-q
-mul-q c = search needs
+head-of-requires : tie.Need-head-of-requires
+head-of-requires c κs = search needs
 
-element-copy-out-q : tie.Need-element-copy-out-q
-element-copy-out-q c = search needs
-
-element-copy-out-w : tie.Need-element-copy-out-w
-element-copy-out-w c = search needs
-
-cast-w : tie.Need-cast-w
-cast-w c = let start = c .before .before in omega (arith, start .pre .0 .headIn32 (start .args .actor) (omega arith))
-
-mul-w : tie.Need-mul-w
-mul-w c = let start = c .before .before in omega (arith, start .pre .0 .headIn32 (start .args .actor) (omega arith))
-
-element-copy-out-w-2 : tie.Need-element-copy-out-w-2
-element-copy-out-w-2 c = let start = c .before .before in omega (arith, start .pre .0 .headIn32 (start .args .actor) (omega arith))
+view-of-requires : tie.Need-view-of-requires
+view-of-requires c κs = let start = c .before .before .before in rw (c .before .head-of .ensures) (start .pre .0 .headIn32 (start .args .actor) (omega arith))
 
 returns : tie.Need-returns
 unfolding jobStep
-returns c = search tests
+returns c = let e = rw (c .before .before .view-of .ensures, c .before .before .before .before .head-of .ensures) at (c .if1 .taken) in simp (eq-eqb _ _ e)
 
 returns-2 : tie.Need-returns-2
 unfolding jobStep
-returns-2 c = search tests
+returns-2 c =
+    let d = rw (c .before .before .before .before .view-of .ensures, c .before .before .before .before .before .before .head-of .ensures) at (c .before .before .if1 .left) in
+    let e = rw (c .before .before .before .before .view-of .ensures, c .before .before .before .before .before .before .head-of .ensures) at (c .if2 .taken) in
+    simp (ne-eqb _ _ d, eq-eqb _ _ e)
 
 returns-3 : tie.Need-returns-3
 unfolding jobStep
-returns-3 c = search tests
+returns-3 c =
+    let d = rw (c .before .before .before .before .before .before .view-of .ensures, c .before .before .before .before .before .before .before .before .head-of .ensures) at (c .before .before .before .before .if1 .left) in
+    let d₂ = rw (c .before .before .before .before .before .before .view-of .ensures, c .before .before .before .before .before .before .before .before .head-of .ensures) at (c .before .before .if2 .left) in
+    let e = rw (c .before .before .before .before .before .before .view-of .ensures, c .before .before .before .before .before .before .before .before .head-of .ensures) at (c .if3 .taken) in
+    simp (ne-eqb _ _ d, ne-eqb _ _ d₂, eq-eqb _ _ e)
+
+array-read-awaiting-step : tie.Need-array-read-awaiting-step
+array-read-awaiting-step c = search needs
+
+copies-requires : tie.Need-copies-requires
+copies-requires c κs =
+    let start = c .before .before .before .before .before .before .before .before .before .before .before in
+    let h = start .pre .0 .headIn32 (start .args .actor) (omega arith) in
+    rw (c .before .before .before .before .before .before .before .view-of .ensures, c .before .before .before .before .before .before .before .before .before .head-of .ensures) (start .pre .0 .storeIn8 _ h, h)
+
+copies-requires-2 : tie.Need-copies-requires-2
+copies-requires-2 c κs =
+    let start = c .before .before .before .before .before .before .before .before .before .before .before .before in
+    let h = start .pre .0 .headIn32 (start .args .actor) (omega arith) in
+    rw (c .before .before .before .before .before .before .before .before .view-of .ensures, c .before .before .before .before .before .before .before .before .before .before .head-of .ensures) (start .pre .0 .storeIn8 _ h, h)
 
 awaiting-step-requires : tie.Need-awaiting-step-requires
 awaiting-step-requires c κs = search needs
 
 returns-4 : tie.Need-returns-4
 unfolding jobStep
-returns-4 c = c .awaiting-step .ensures ∙ rw (ne-eqb _ _ (c .before .before .before .before .before .if1 .left), ne-eqb _ _ (c .before .before .before .if2 .left), ne-eqb _ _ (c .before .if3 .left))
+returns-4 c =
+    let d = rw (c .before .before .before .before .before .before .before .before .before .before .view-of .ensures, c .before .before .before .before .before .before .before .before .before .before .before .before .head-of .ensures) at (c .before .before .before .before .before .before .before .before .if1 .left) in
+    let d₂ = rw (c .before .before .before .before .before .before .before .before .before .before .view-of .ensures, c .before .before .before .before .before .before .before .before .before .before .before .before .head-of .ensures) at (c .before .before .before .before .before .before .if2 .left) in
+    let d₃ = rw (c .before .before .before .before .before .before .before .before .before .before .view-of .ensures, c .before .before .before .before .before .before .before .before .before .before .before .before .head-of .ensures) at (c .before .before .before .before .if3 .left) in
+    rw (c .awaiting-step .ensures, c .before .copies2 .ensures, c .before .before .copies .ensures, c .before .before .before .before .before .before .before .before .before .before .view-of .ensures, c .before .before .before .before .before .before .before .before .before .before .before .before .head-of .ensures) (simp (ne-eqb _ _ d, ne-eqb _ _ d₂, ne-eqb _ _ d₃))
 
 pub job-step-spec : {M : Type 1} → statement M
 job-step-spec =
     tie.close
     (tie.spec
-    mul-q
-    element-copy-out-q
-    element-copy-out-w
-    cast-w
-    mul-w
-    element-copy-out-w-2
+    head-of-requires
+    view-of-requires
     returns
     returns-2
     returns-3
+    array-read-awaiting-step
+    copies-requires
+    copies-requires-2
     awaiting-step-requires
     returns-4)

@@ -1,9 +1,20 @@
 -- Each exit by the tests before it, which speak of the lowest that the searches found. Assumes nothing.
 use borrow.Author.Tests.{lt-ltb, le-ltb}
 use borrow.Author.Needs.{needs}
-use Rattle.runs.specs.Drain.{turnOf}
+use mathlib.Core.Path.{_≡_, refl, _∙_}
+use Prim.Native.Nat.{ℕ}
+use denote.Ref.{now}
+use mathlib.Core.List.{List}
+use Rattle.machine.specs.Writes.{withUpdates, withUacks}
+use Rattle.machine.specs.declared.Machine.{Machine}
+use Rattle.runs.specs.Drain.{jobStep, entryStep, turnOf}
 use Rattle.runs.proofs.turns.turn.Statement.{statement}
 use Rattle.runs.proofs.turns.turn.Tie as tie
+
+-- the actors' steps don't look at updates and uacks
+job-apart : (m : Machine) (updates uacks : List ℕ) (a : ℕ) → jobStep m a ≡ jobStep (withUacks (withUpdates m updates) uacks) a
+unfolding jobStep
+job-apart m updates uacks a = refl
 
 unreceived-requires : tie.Need-unreceived-requires
 unreceived-requires c κs = search needs
@@ -20,13 +31,16 @@ job-step-requires c κs = search needs
 
 returns-2 : tie.Need-returns-2
 unfolding turnOf
-returns-2 c = simp (← c .before .before .before .before .before .before .before .unreceived .ensures, le-ltb _ _ (c .before .before .before .before .before .if1 .left), ← c .before .before .before .busy .ensures, lt-ltb _ _ (c .before .if2 .taken), c .job-step .ensures)
+returns-2 c =
+    let start = c .before .before .before .before .before .before .before .before .before in
+    let job = c .job-step .ensures ∙ job-apart _ (now (start .args .updates)) (now (start .args .uacks)) _ in
+    simp (← c .before .before .before .before .before .before .before .unreceived .ensures, le-ltb _ _ (c .before .before .before .before .before .if1 .left), ← c .before .before .before .busy .ensures, lt-ltb _ _ (c .before .if2 .taken), job)
 
 coordinator-turn-requires : tie.Need-coordinator-turn-requires
 coordinator-turn-requires c κs = search needs
 
 returns-3 : tie.Need-returns-3
-unfolding turnOf
+unfolding turnOf entryStep
 returns-3 c = simp (← c .before .before .before .before .before .before .before .unreceived .ensures, le-ltb _ _ (c .before .before .before .before .before .if1 .left), ← c .before .before .before .busy .ensures, le-ltb _ _ (c .before .if2 .left), c .coordinator-turn .ensures)
 
 pub turn-spec : {M : Type 1} → statement M

@@ -1,6 +1,7 @@
 -- The loop goes along the course (proofs/Draining); it stays unbroken, so each turn has its bounds. Assumes nothing.
-use Prim.Native.Nat.{_-_}
+use Prim.Native.Nat.{_+_, _-_, _<_}
 use mathlib.Core.Path.{sym, _∙_}
+use native.Mathlib.Omega.{arith}
 use borrow.Author.Needs.{needs}
 use Rattle.machine.proofs.Laws.{bounds}
 use Rattle.runs.proofs.Draining.{Going, going-start, going-on, going-rest, going-end}
@@ -8,10 +9,10 @@ use Rattle.runs.proofs.turns.turns.Statement.{statement}
 use Rattle.runs.proofs.turns.turns.Tie as tie
 
 abbrev Inv-loop : tie.InvT-loop
-Inv-loop limit m₀ count₀ m count = Going limit m₀ count m
+Inv-loop limit r₀ count₀ r count = Going limit (r₀ .machine) count (r .machine)
 
 abbrev μ-loop : tie.MeasureT-loop
-μ-loop limit m₀ count₀ m count = limit - count
+μ-loop limit r₀ count₀ r count = limit - count
 
 cast-limit : tie.Need-cast-limit Inv-loop μ-loop
 cast-limit c = search needs
@@ -23,7 +24,7 @@ loop-holds : tie.Need-loop-holds Inv-loop μ-loop
 loop-holds c = going-start _ _ (c .before .pre)
 
 turn-requires : tie.Need-turn-requires Inv-loop μ-loop
-turn-requires c κs = bounds _ (c .before .loop .inv .whole)
+turn-requires c κs = bounds _ (c .before .before .before .before .before .before .before .loop .inv .whole)
 
 enum-known-t : tie.Need-enum-known-t Inv-loop μ-loop
 enum-known-t c = search needs
@@ -32,22 +33,26 @@ enum-told : tie.Need-enum-told Inv-loop μ-loop
 enum-told c = search needs
 
 returns : tie.Need-returns Inv-loop μ-loop
-returns c = going-rest (c .before .before .before .before .loop .inv) (c .before .before .before .loop-test .taken) (sym (c .before .before .turn .ensures) ∙ c .enum-told .given .1)
+returns c = going-rest (c .before .before .before .before .before .before .before .before .before .before .before .loop .inv) (c .before .before .before .before .before .before .before .before .before .before .loop-test .taken) (sym (c .before .before .before .turn .ensures) ∙ c .before .enum-told .given .1)
 
 step-unbroken-requires : tie.Need-step-unbroken-requires Inv-loop μ-loop
-step-unbroken-requires c κs = c .before .before .before .before .before .loop .inv .whole
+step-unbroken-requires c κs = c .before .before .before .before .before .before .before .before .before .before .before .before .loop .inv .whole
 
 add-count : tie.Need-add-count Inv-loop μ-loop
-add-count c = search needs
+add-count c =
+    let loop = c .before .before .before .before .before .before .before .before .before .before .before .before .before in
+    let small = bounds _ (loop .before .before .pre) .made16 in
+    let room : loop .loop .count + 1 < 65536 = omega (arith, small, c .before .before .before .before .before .before .before .before .before .before .before .before .loop-test .taken) in
+    record { fits = room }
 
 loop-less : tie.Need-loop-less Inv-loop μ-loop
 loop-less c = search needs
 
 loop-again : tie.Need-loop-again Inv-loop μ-loop
-loop-again c = going-on (c .before .before .before .before .before .before .before .loop .inv) _ (c .before .step-unbroken .result) (c .before .before .before .before .before .before .loop-test .taken) (sym (c .before .before .before .before .before .turn .ensures) ∙ c .before .before .before .t .given .1) (c .before .step-unbroken .ensures)
+loop-again c = going-on (c .before .before .before .before .before .before .before .before .before .before .before .before .before .loop .inv) _ (c .step-unbroken .result) (c .before .before .before .before .before .before .before .before .before .before .before .before .loop-test .taken) (sym (c .before .before .before .before .before .turn .ensures) ∙ c .before .before .before .t .given .1) (c .step-unbroken .ensures)
 
 returns-2 : tie.Need-returns-2 Inv-loop μ-loop
-returns-2 c = going-end (c .before .loop .inv) (c .loop-test .left)
+returns-2 c = going-end (c .before .before .loop .inv) (c .before .loop-test .left)
 
 pub turns-spec : {M : Type 1} → statement M
 turns-spec =
