@@ -22,38 +22,39 @@ unfolding each
 each-none g s zero j w h = refl
 each-none g s (suc n) j w h = let z : ⊥ = omega arith in absurd z
 
-pub record Going (m : Machine) (s k link : ℕ) (w out : Met) (j : ℕ) : Type 0 where
+-- .. in every machine of a kind: those of which the arrays are
+pub record Going (of : Machine → Type 0) (s k link : ℕ) (w out : Met) (j : ℕ) : Type 0 where
   pub low : j ≤ k
   pub tally : Tally out
-  pub same : (depth : ℕ) → k ≤ depth → each (λ c. visitOf depth m c (hopOf m k link c)) s (k - j) j out ≡ each (λ c. visitOf depth m c (hopOf m k link c)) s k 0 w
+  pub same : (m : Machine) → of m → (depth : ℕ) → k ≤ depth → each (λ c. visitOf depth m c (hopOf m k link c)) s (k - j) j out ≡ each (λ c. visitOf depth m c (hopOf m k link c)) s k 0 w
 
-pub go-start : {m : Machine} {s k link : ℕ} {w : Met} → Tally w → Going m s k link w w 0
-go-start {m} {s} {k} {link} {w} t = let e : k - 0 ≡ k = omega arith in record { low = omega arith; tally = t; same = λ depth h. rw e }
+pub go-start : {of : Machine → Type 0} {s k link : ℕ} {w : Met} → Tally w → Going of s k link w w 0
+go-start {of} {s} {k} {link} {w} t = let e : k - 0 ≡ k = omega arith in record { low = omega arith; tally = t; same = λ m a depth h. rw e }
 
-module _ {m : Machine} {s k link : ℕ} {w out : Met} {j : ℕ} (h : Going m s k link w out j) (b : j < k) where
+module _ {of : Machine → Type 0} {s k link : ℕ} {w out : Met} {j : ℕ} (h : Going of s k link w out j) (b : j < k) where
   -- one turn: what the test gives from here
-  turned : (v : Bool) → bit s j ≡ v → {r : Met} → Tally r → ((depth : ℕ) → k ≤ depth → r ≡ pick v (visitOf depth m j (hopOf m k link j) out) out) → Going m s k link w r (j + 1)
+  turned : (v : Bool) → bit s j ≡ v → {r : Met} → Tally r → ((m : Machine) → of m → (depth : ℕ) → k ≤ depth → r ≡ pick v (visitOf depth m j (hopOf m k link j) out) out) → Going of s k link w r (j + 1)
   turned v e {r} t q =
       let d : k - (j + 1) ≡ k - j - 1 = omega arith in
       record {
         low = omega arith;
         tally = t;
-        same = λ depth l.
+        same = λ m a depth l.
             let g : ℕ → Met → Met = λ c. visitOf depth m c (hopOf m k link c) in
             let z : each g s (k - j) j out ≡ each g s (k - j - 1) (j + 1) (pick (bit s j) (g j out) out) = each-one g s (k - j) j out (omega arith) in
-            rw (d, q depth l) (sym (rw e at z) ∙ h .same depth l);
+            rw (d, q m a depth l) (sym (rw e at z) ∙ h .same m a depth l);
       }
 
-  pub go-has : {r : Met} {hopped : ℕ} → bit s j ≡ true → hopped ≡ hopOf m k link j → Tally r → ((depth : ℕ) → j < depth → r ≡ visitOf depth m j hopped out) → Going m s k link w r (j + 1)
-  go-has {r} {hopped} e o t v = turned true e t (λ depth l. rw o at (v depth (omega arith)))
+  pub go-has : {r : Met} {hopped : ℕ} → bit s j ≡ true → ((m : Machine) → of m → hopped ≡ hopOf m k link j) → Tally r → ((m : Machine) → of m → (depth : ℕ) → j < depth → r ≡ visitOf depth m j hopped out) → Going of s k link w r (j + 1)
+  go-has {r} {hopped} e o t v = turned true e t (λ m a depth l. rw (o m a) at (v m a depth (omega arith)))
 
-  pub go-not : bit s j ≡ false → Going m s k link w out (j + 1)
-  go-not e = turned false e (h .tally) (λ depth l. refl)
+  pub go-not : bit s j ≡ false → Going of s k link w out (j + 1)
+  go-not e = turned false e (h .tally) (λ m a depth l. refl)
 
-pub go-end : {m : Machine} {s k link : ℕ} {w out : Met} {j : ℕ} → Going m s k link w out j → k ≤ j → s ≡ causesHeld m k link
-    → (depth : ℕ) → k ≤ depth → out ≡ each (λ c. visitOf depth m c (hopOf m k link c)) (causesHeld m k link) k 0 w
-go-end {m} {s} {k} {link} {w} {out} {j} h b e depth d =
-    sym (each-none (λ c. visitOf depth m c (hopOf m k link c)) s (k - j) j out (omega arith)) ∙ h .same depth d ∙ rw e
+pub go-end : {of : Machine → Type 0} {s k link : ℕ} {w out : Met} {j : ℕ} → Going of s k link w out j → k ≤ j → ((m : Machine) → of m → s ≡ causesHeld m k link)
+    → (m : Machine) → of m → (depth : ℕ) → k ≤ depth → out ≡ each (λ c. visitOf depth m c (hopOf m k link c)) (causesHeld m k link) k 0 w
+go-end {of} {s} {k} {link} {w} {out} {j} h b e m a depth d =
+    sym (each-none (λ c. visitOf depth m c (hopOf m k link c)) s (k - j) j out (omega arith)) ∙ h .same m a depth d ∙ rw (e m a)
 
 -- the four ways of a visit
 module _ (m : Machine) (k link : ℕ) (w : Met) where

@@ -2,3 +2,5 @@ pub mod Tests
 pub mod Behind
 pub mod Counted
 pub mod Going
+pub mod Laying
+pub mod Taken

@@ -1,14 +1,20 @@
 // The walk back over what the stores hold: visiting a sender record calls the loop over its causes,
 // which calls the visit of each cause's record. The key falls.
 ghost use mathlib.Core.Path.{_≡_};
-ghost use mathlib.Core.Bool.{true, false};
+ghost use mathlib.Core.Bool.{true, false, _&&_};
+ghost use lib.ListN.{length};
 ghost use Prim.Native.Nat.{ℕ, _+_, _<_, _≤_};
-ghost use Rattle.machine.specs.Words.{bit};
-ghost use Rattle.machine.specs.Closed.{restsOf, closedOf};
+ghost use Rattle.machine.specs.Words.{bit, table};
 ghost use Rattle.machine.specs.Broken.{brokenOf};
-ghost use Rattle.walk.specs.Walk.{added, spoiled, foundOf, causesHeld, receiptOf, hopOf, each, visitOf, refusedWalk, answerOf, walkOf};
+ghost use Rattle.walk.specs.Walk.{added, spoiled, causesHeld, hopOf, each, visitOf, refusedWalk, answerOf, walkOf};
+ghost use Rattle.walk.specs.Past.{restsIn, closedIn, heldIn, causesIn, Laid, LaidOut, Past, foundIn, receiptIn, hopIn};
 ghost use Rattle.walk.specs.Tally.{Tally};
+use machine::Contents;
+use machine::Entry;
+use machine::Links;
 use machine::Machine;
+use machine::Repair;
+use machine::View;
 use machine::status_number;
 
 // The keys met so far, in the order first met; fine until one isn't closed or an entry or link is missing.
@@ -93,19 +99,15 @@ fn has(set: u16, j: usize) -> bool
 }
 
 // In phase 5, no repair in flight, and an entry that is done or none.
-fn rests(m: Machine, v: usize) -> bool
-    requires { ⌜ v < 32 ⌝ }
-    ensures { λ r. ⌜ r ≡ restsOf m v ⌝ }
+fn rests(view: View, repair: Repair, entry: Entry) -> bool
+    ensures { λ r. ⌜ r ≡ restsIn view repair entry ⌝ }
 {
-    let view = m.views[v];
     if view.phase != 5 {
         return false;
     }
-    let repair = m.repairs[v];
     if repair.flying {
         return false;
     }
-    let entry = m.entries[v];
     let status = entry.status;
     let number = status_number(status);
     if number == 1 {
@@ -114,20 +116,91 @@ fn rests(m: Machine, v: usize) -> bool
     number != 2
 }
 
-fn closed(m: Machine, k: usize) -> bool
-    requires { ⌜ k < 16 ⌝ }
-    ensures { λ r. ⌜ r ≡ closedOf m k ⌝ }
+fn both(a: bool, b: bool) -> bool
+    ensures { λ r. ⌜ r ≡ a && b ⌝ }
 {
-    if rests(m, k * 2) {
-        return rests(m, k * 2 + 1);
+    if a {
+        return b;
     }
     false
 }
 
+// The walk takes from a machine once what it reads there, as arrays that each visit is lent: a machine would be copied.
+// The keys that are closed.
+fn all_closed(views: [View; 32], repairs: [Repair; 32], entries: [Entry; 32]) -> [bool; 16]
+    ensures { λ r. ⌜ r ≡ table (closedIn views repairs entries) 16 ⌝ }
+{
+    let mut closed = [false; 16];
+    let mut k: usize = 0;
+    while k < 16 {
+        let s = k * 2;
+        let r = k * 2 + 1;
+        closed[k] = both(
+            rests(views[s], repairs[s], entries[s]),
+            rests(views[r], repairs[r], entries[r]),
+        );
+        k += 1;
+    }
+    closed
+}
+
+// The places where contents are held.
+fn all_held(contents: [Contents; 256]) -> [bool; 256]
+    ensures { λ r. ⌜ r ≡ table (heldIn contents) 256 ⌝ }
+{
+    let mut held = [false; 256];
+    let mut i: usize = 0;
+    while i < 256 {
+        let c = contents[i];
+        held[i] = c.held;
+        i += 1;
+    }
+    held
+}
+
+// The causes of what is held, by place.
+fn all_causes(contents: [Contents; 256]) -> [u16; 256]
+    ensures { λ r. ⌜ r ≡ table (causesIn contents) 256 ⌝ }
+{
+    let mut causes = [0u16; 256];
+    let mut i: usize = 0;
+    while i < 256 {
+        let c = contents[i];
+        causes[i] = c.causes;
+        i += 1;
+    }
+    causes
+}
+
+// The sixteen cause links of a sender, laid from `at`.
+fn lay(out: &mut [u8; 2048], at: usize, links: Links)
+    requires { ⌜ (at + 16 ≤ 2048) × (length (now out) ≡ 2048) ⌝ }
+    ensures { λ r. ⌜ Laid 16 at (links .to) (now (out .entry)) (now (out .exit)) ⌝ }
+{
+    let mut j: usize = 0;
+    while j < 16 {
+        out[at + j] = links.to[j];
+        j += 1;
+    }
+}
+
+// The cause links of senders, sixteen for each place.
+fn all_links(links: [Links; 128]) -> [u8; 2048]
+    ensures { λ r. ⌜ LaidOut 128 links r ⌝ }
+{
+    let mut out = [0u8; 2048];
+    let mut i: usize = 0;
+    while i < 128 {
+        lay(&mut out, i * 16, links[i]);
+        i += 1;
+    }
+    out
+}
+
 // Whether key k is closed and the store of the link holds its sender record. No store is behind the eighth.
-fn found(m: Machine, k: usize, link: usize) -> bool
+fn found<'a>(closed: &'a [bool; 16], held: &'a [bool; 256], k: usize, link: usize) -> bool
     requires { ⌜ k < 16 ⌝ }
-    ensures same { λ r. ⌜ r ≡ foundOf m k link ⌝ }
+    ensures same { λ r. ⌜ r ≡ foundIn (now (closed .entry)) (now (held .entry)) k link ⌝ }
     ensures bounded { λ r. ⌜ (r ≡ true → (1 ≤ link) × (link ≤ 8)) ⌝ }
 {
     if link == 0 {
@@ -136,49 +209,59 @@ fn found(m: Machine, k: usize, link: usize) -> bool
     if 8 < link {
         return false;
     }
-    let contents = m.contents[(link - 1) * 32 + k * 2];
-    if contents.held {
-        return closed(m, k);
+    if held[(link - 1) * 32 + k * 2] {
+        return closed[k];
     }
     false
 }
 
-fn causes_held(m: Machine, k: usize, link: usize) -> u16
-    requires { ⌜ (k < 16) × (1 ≤ link) × (link ≤ 8) ⌝ }
-    ensures { λ r. ⌜ r ≡ causesHeld m k link ⌝ }
-{
-    let contents = m.contents[(link - 1) * 32 + k * 2];
-    contents.causes
-}
-
 // By the cause link to the receipt.
-fn hop(m: Machine, k: usize, link: usize, j: usize) -> usize
+fn hop<'a>(
+    held: &'a [bool; 256],
+    links: &'a [u8; 2048],
+    viewlinks: &'a [u8; 256],
+    k: usize,
+    link: usize,
+    j: usize,
+) -> usize
     requires { ⌜ (k < 16) × (j < 16) × (1 ≤ link) × (link ≤ 8) ⌝ }
-    ensures { λ r. ⌜ r ≡ hopOf m k link j ⌝ }
+    ensures { λ r. ⌜ r ≡ hopIn (now (held .entry)) (now (links .entry)) (now (viewlinks .entry)) k link j ⌝ }
 {
-    let links = m.links[(link - 1) * 16 + k];
-    receipt(m, wide(links.to[j]), j)
+    receipt(
+        held,
+        viewlinks,
+        wide(links[((link - 1) * 16 + k) * 16 + j]),
+        j,
+    )
 }
 
 // By the receipt's viewlink to the opposite sender record.
-fn receipt(m: Machine, p: usize, j: usize) -> usize
+fn receipt<'a>(held: &'a [bool; 256], viewlinks: &'a [u8; 256], p: usize, j: usize) -> usize
     requires { ⌜ j < 16 ⌝ }
-    ensures { λ r. ⌜ r ≡ receiptOf m p j ⌝ }
+    ensures { λ r. ⌜ r ≡ receiptIn (now (held .entry)) (now (viewlinks .entry)) p j ⌝ }
 {
     if 8 <= p {
         return 0;
     }
-    let contents = m.contents[p * 32 + (j * 2 + 1)];
-    if contents.held {
-        return wide(m.viewlinks[p * 32 + (j * 2 + 1)]);
+    if held[p * 32 + (j * 2 + 1)] {
+        return wide(viewlinks[p * 32 + (j * 2 + 1)]);
     }
     0
 }
 
-fn visit(w: Met, m: Machine, k: usize, link: usize) -> Met
+fn visit<'a>(
+    w: Met,
+    closed: &'a [bool; 16],
+    held: &'a [bool; 256],
+    sets: &'a [u16; 256],
+    links: &'a [u8; 2048],
+    viewlinks: &'a [u8; 256],
+    k: usize,
+    link: usize,
+) -> Met
     requires { ⌜ (k < 16) × Tally w ⌝ }
     ensures tally { λ r. ⌜ Tally r ⌝ }
-    ensures same { λ r. ⌜ ((depth : ℕ) → k < depth → r ≡ visitOf depth m k link w) ⌝ }
+    ensures same { λ r. ⌜ ((m : Machine) → Past m (now (closed .entry)) (now (held .entry)) (now (sets .entry)) (now (links .entry)) (now (viewlinks .entry)) → (depth : ℕ) → k < depth → r ≡ visitOf depth m k link w) ⌝ }
 {
     if !w.fine {
         return w;
@@ -186,23 +269,33 @@ fn visit(w: Met, m: Machine, k: usize, link: usize) -> Met
     if w.met[k] {
         return w;
     }
-    if found(m, k, link) {
-        return causes(w.add(k), m, k, link);
+    if found(closed, held, k, link) {
+        return causes(w.add(k), closed, held, sets, links, viewlinks, k, link);
     }
     w.spoil()
 }
 
-fn causes(w: Met, m: Machine, k: usize, link: usize) -> Met
+fn causes<'a>(
+    w: Met,
+    closed: &'a [bool; 16],
+    held: &'a [bool; 256],
+    sets: &'a [u16; 256],
+    links: &'a [u8; 2048],
+    viewlinks: &'a [u8; 256],
+    k: usize,
+    link: usize,
+) -> Met
     requires { ⌜ (k < 16) × (1 ≤ link) × (link ≤ 8) × Tally w ⌝ }
     ensures tally { λ r. ⌜ Tally r ⌝ }
-    ensures same { λ r. ⌜ ((depth : ℕ) → k ≤ depth → r ≡ each (λ j. visitOf depth m j (hopOf m k link j)) (causesHeld m k link) k 0 w) ⌝ }
+    ensures same { λ r. ⌜ ((m : Machine) → Past m (now (closed .entry)) (now (held .entry)) (now (sets .entry)) (now (links .entry)) (now (viewlinks .entry)) → (depth : ℕ) → k ≤ depth → r ≡ each (λ j. visitOf depth m j (hopOf m k link j)) (causesHeld m k link) k 0 w) ⌝ }
 {
-    let set = causes_held(m, k, link);
+    let set = sets[(link - 1) * 32 + k * 2];
     let mut out = w;
     let mut j = 0;
     while j < k {
         if has(set, j) {
-            out = visit(out, m, j, hop(m, k, link, j));
+            let next = hop(held, links, viewlinks, k, link, j);
+            out = visit(out, closed, held, sets, links, viewlinks, j, next);
             j += 1;
         } else {
             j += 1;
@@ -227,7 +320,25 @@ fn walk_unbroken(m: Machine, key: u8) -> Walked
         keys: [0u8; 16],
         count: 0,
     };
-    let walked = visit(unmet, m, k, link(view.store));
+    let views = m.views;
+    let repairs = m.repairs;
+    let entries = m.entries;
+    let contents = m.contents;
+    let links = m.links;
+    let closed = all_closed(views, repairs, entries);
+    let held = all_held(contents);
+    let sets = all_causes(contents);
+    let out = all_links(links);
+    let walked = visit(
+        unmet,
+        &closed,
+        &held,
+        &sets,
+        &out,
+        &m.viewlinks,
+        k,
+        link(view.store),
+    );
     walked.answer()
 }
 

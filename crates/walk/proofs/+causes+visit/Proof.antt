@@ -7,6 +7,8 @@ use native.Mathlib.Omega.{arith}
 use mathlib.Core.Path.{sym, _∙_}
 use Rattle.walk.proofs.Counted.{room, tally-added}
 use Rattle.walk.proofs.Going.{Going, go-start, go-has, go-not, go-end, visit-spoiled, visit-met, visit-found, visit-missing}
+use Rattle.walk.specs.Past.{Past}
+use Rattle.walk.proofs.Taken.{found-same, hop-same, causes-same}
 use borrow.Fn.Kinds.{In}
 use borrow.Fn.PlainCycle.{Measures, is, falls, and}
 use Rattle.walk.proofs.causes.Reads as causes
@@ -17,35 +19,32 @@ use Rattle.walk.proofs.visit.Kinds as visit-kinds
 use Rattle.walk.proofs.+causes+visit.Lts-visit as visit-lts
 use Rattle.walk.proofs.Met.add.Reads as add-reads
 use Rattle.walk.proofs.Met.spoil.Reads as spoil-reads
-use Rattle.walk.proofs.causes_held.Reads as causes-held-reads
 use Rattle.walk.proofs.found.Reads as found-reads
 use Rattle.walk.proofs.has.Reads as has-reads
 use Rattle.walk.proofs.hop.Reads as hop-reads
 use Rattle.walk.proofs.+causes+visit.{statement}
 use Rattle.walk.proofs.+causes+visit.Tie.{close}
 
-abbrev μ-causes : Measures 0 causes-kinds.ps ℕ
-μ-causes κs a = 2 * a .1 .1 .0
+abbrev μ-causes : Measures 1 causes-kinds.ps ℕ
+μ-causes κs a = 2 * a .1 .1 .1 .1 .1 .1 .0
 
-abbrev μ-visit : Measures 0 visit-kinds.ps ℕ
-μ-visit κs a = 2 * a .1 .1 .0 + 1
+abbrev μ-visit : Measures 1 visit-kinds.ps ℕ
+μ-visit κs a = 2 * a .1 .1 .1 .1 .1 .1 .0 + 1
 
-abbrev causes-at : ℕ → In 0 causes-kinds.ps
-causes-at t = and 0 causes-kinds.ps (is 0 causes-kinds.ps μ-causes t) causes.Pre
+abbrev causes-at : ℕ → In 1 causes-kinds.ps
+causes-at t = and 1 causes-kinds.ps (is 1 causes-kinds.ps μ-causes t) causes.Pre
 
-abbrev causes-below : ℕ → In 0 causes-kinds.ps
-causes-below t = and 0 causes-kinds.ps (falls 0 causes-kinds.ps _<_ μ-causes t) causes.Pre
+abbrev causes-below : ℕ → In 1 causes-kinds.ps
+causes-below t = and 1 causes-kinds.ps (falls 1 causes-kinds.ps _<_ μ-causes t) causes.Pre
 
-abbrev visit-at : ℕ → In 0 visit-kinds.ps
-visit-at t = and 0 visit-kinds.ps (is 0 visit-kinds.ps μ-visit t) visit.Pre
+abbrev visit-at : ℕ → In 1 visit-kinds.ps
+visit-at t = and 1 visit-kinds.ps (is 1 visit-kinds.ps μ-visit t) visit.Pre
 
-abbrev visit-below : ℕ → In 0 visit-kinds.ps
-visit-below t = and 0 visit-kinds.ps (falls 0 visit-kinds.ps _<_ μ-visit t) visit.Pre
+abbrev visit-below : ℕ → In 1 visit-kinds.ps
+visit-below t = and 1 visit-kinds.ps (falls 1 visit-kinds.ps _<_ μ-visit t) visit.Pre
 
 abbrev causes-claims : ℕ → causes-lts.Claims
 causes-claims t = (
-  causes-held-reads.Asked,
-  causes-held-reads.Learnt,
   has-reads.Asked,
   has-reads.Learnt,
   hop-reads.Asked,
@@ -67,13 +66,28 @@ visit-claims t = (
 )
 
 abbrev causes-Inv-loop : causes-lts.InvT-loop
-causes-Inv-loop m k link set out₀ j₀ out j = Going m set k link out₀ out j
+causes-Inv-loop closed held sets links viewlinks k link set out₀ j₀ out j = Going (λ m. Past m closed held sets links viewlinks) set k link out₀ out j
 
 abbrev causes-μ-loop : causes-lts.MeasureT-loop
-causes-μ-loop m k link set out₀ j₀ out j = k - j
+causes-μ-loop closed held sets links viewlinks k link set out₀ j₀ out j = k - j
 
-causes-causes-held-requires : (t : ℕ) → causes-lts.Need-causes-held-requires (causes-claims t) (causes-at t) causes.Post causes-Inv-loop causes-μ-loop
-causes-causes-held-requires t c κs = (c .pre .1 .0, c .pre .1 .1, c .pre .1 .2)
+causes-sub-set : (t : ℕ) → causes-lts.Need-sub-set (causes-claims t) (causes-at t) causes.Post causes-Inv-loop causes-μ-loop
+causes-sub-set t c = omega arith
+
+causes-mul-set : (t : ℕ) → causes-lts.Need-mul-set (causes-claims t) (causes-at t) causes.Post causes-Inv-loop causes-μ-loop
+causes-mul-set t c = omega arith
+
+causes-mul-set-2 : (t : ℕ) → causes-lts.Need-mul-set-2 (causes-claims t) (causes-at t) causes.Post causes-Inv-loop causes-μ-loop
+causes-mul-set-2 t c = omega arith
+
+causes-add-set : (t : ℕ) → causes-lts.Need-add-set (causes-claims t) (causes-at t) causes.Post causes-Inv-loop causes-μ-loop
+causes-add-set t c = omega arith
+
+causes-mul-set-3 : (t : ℕ) → causes-lts.Need-mul-set-3 (causes-claims t) (causes-at t) causes.Post causes-Inv-loop causes-μ-loop
+causes-mul-set-3 t c = omega arith
+
+causes-element-copy-out-set : (t : ℕ) → causes-lts.Need-element-copy-out-set (causes-claims t) (causes-at t) causes.Post causes-Inv-loop causes-μ-loop
+causes-element-copy-out-set t c = omega arith
 
 causes-loop-holds : (t : ℕ) → causes-lts.Need-loop-holds (causes-claims t) (causes-at t) causes.Post causes-Inv-loop causes-μ-loop
 causes-loop-holds t c = go-start (c .before .pre .1 .3)
@@ -94,7 +108,8 @@ causes-loop-less : (t : ℕ) → causes-lts.Need-loop-less (causes-claims t) (ca
 causes-loop-less t c = omega arith
 
 causes-loop-again : (t : ℕ) → causes-lts.Need-loop-again (causes-claims t) (causes-at t) causes.Post causes-Inv-loop causes-μ-loop
-causes-loop-again t c = go-has (c .before .before .before .before .before .loop .inv) (c .before .before .before .before .loop-test .taken) (sym (c .before .before .before .has .ensures) ∙ c .before .before .if1 .taken) (c .before .hop .ensures) (c .visit .ensures .0) (c .visit .ensures .1)
+causes-loop-again t c = let start = c .before .before .before .before .before .before .before .pre .1 in
+    go-has (c .before .before .before .before .before .loop .inv) (c .before .before .before .before .loop-test .taken) (sym (c .before .before .before .has .ensures) ∙ c .before .before .if1 .taken) (λ m past. c .before .hop .ensures ∙ hop-same past _ _ _ (start .0) (start .1) (start .2) (omega arith)) (c .visit .ensures .0) (c .visit .ensures .1)
 
 causes-add-j-2 : (t : ℕ) → causes-lts.Need-add-j-2 (causes-claims t) (causes-at t) causes.Post causes-Inv-loop causes-μ-loop
 causes-add-j-2 t c = omega arith
@@ -106,16 +121,17 @@ causes-loop-again-2 : (t : ℕ) → causes-lts.Need-loop-again-2 (causes-claims 
 causes-loop-again-2 t c = go-not (c .before .before .before .loop .inv) (c .before .before .loop-test .taken) (sym (c .before .has .ensures) ∙ c .if1 .left)
 
 causes-returns : (t : ℕ) → causes-lts.Need-returns (causes-claims t) (causes-at t) causes.Post causes-Inv-loop causes-μ-loop
-causes-returns t c = (c .before .loop .inv .tally, go-end (c .before .loop .inv) (c .loop-test .left) (c .before .before .causes-held .ensures))
+causes-returns t c = let start = c .before .before .before .pre .1 in
+    (c .before .loop .inv .tally, go-end (c .before .loop .inv) (c .loop-test .left) (λ m past. causes-same past _ _ (start .0) (start .1) (start .2)))
 
 visit-returns : (t : ℕ) → visit-lts.Need-returns (visit-claims t) (visit-at t) visit.Post
-visit-returns t c = (c .before .pre .1 .1, visit-spoiled _ _ _ _ (not-true _ (c .if1 .taken)))
+visit-returns t c = (c .before .pre .1 .1, λ m past. visit-spoiled _ _ _ _ (not-true _ (c .if1 .taken)))
 
 visit-element-copy-out-if2 : (t : ℕ) → visit-lts.Need-element-copy-out-if2 (visit-claims t) (visit-at t) visit.Post
 visit-element-copy-out-if2 t c = search needs
 
 visit-returns-2 : (t : ℕ) → visit-lts.Need-returns-2 (visit-claims t) (visit-at t) visit.Post
-visit-returns-2 t c = (c .before .before .before .pre .1 .1, visit-met _ _ _ _ (not-false _ (c .before .before .if1 .left)) (c .if2 .taken))
+visit-returns-2 t c = (c .before .before .before .pre .1 .1, λ m past. visit-met _ _ _ _ (not-false _ (c .before .before .if1 .left)) (c .if2 .taken))
 
 visit-found-requires : (t : ℕ) → visit-lts.Need-found-requires (visit-claims t) (visit-at t) visit.Post
 visit-found-requires t c κs = search needs
@@ -127,13 +143,14 @@ visit-causes-requires : (t : ℕ) → visit-lts.Need-causes-requires (visit-clai
 visit-causes-requires t c κs = (omega (arith, c .before .before .before .before .before .before .pre .0), (c .before .before .before .before .before .before .pre .1 .0, c .before .before .found .ensures .1 (c .before .if3 .taken) .0, c .before .before .found .ensures .1 (c .before .if3 .taken) .1, rw (c .add .ensures) (tally-added _ _ (c .before .before .before .before .before .before .pre .1 .1) (c .before .before .before .before .before .before .pre .1 .0) (c .before .before .before .if2 .left))))
 
 visit-returns-3 : (t : ℕ) → visit-lts.Need-returns-3 (visit-claims t) (visit-at t) visit.Post
-visit-returns-3 t c = (c .causes .ensures .0, visit-found _ _ _ _ (not-false _ (c .before .before .before .before .before .before .if1 .left)) (c .before .before .before .before .if2 .left) (sym (c .before .before .before .found .ensures .0) ∙ c .before .before .if3 .taken) (c .before .add .ensures) (c .causes .ensures .1))
+visit-returns-3 t c = (c .causes .ensures .0, λ m past. visit-found _ _ _ _ (not-false _ (c .before .before .before .before .before .before .if1 .left)) (c .before .before .before .before .if2 .left) (sym (found-same past _ _ (c .before .before .before .before .before .before .before .pre .1 .0)) ∙ sym (c .before .before .before .found .ensures .0) ∙ c .before .before .if3 .taken) (c .before .add .ensures) (c .causes .ensures .1 m past))
 
 visit-spoil-requires : (t : ℕ) → visit-lts.Need-spoil-requires (visit-claims t) (visit-at t) visit.Post
 visit-spoil-requires t c κs = search needs
 
 visit-returns-4 : (t : ℕ) → visit-lts.Need-returns-4 (visit-claims t) (visit-at t) visit.Post
-visit-returns-4 t c = (rw (c .spoil .ensures) (record { long = c .before .before .before .before .before .before .pre .1 .1 .long; counted = c .before .before .before .before .before .before .pre .1 .1 .counted }), visit-missing _ _ _ _ (not-false _ (c .before .before .before .before .before .if1 .left)) (c .before .before .before .if2 .left) (sym (c .before .before .found .ensures .0) ∙ c .before .if3 .left) (c .spoil .ensures))
+visit-returns-4 t c = let start = c .before .before .before .before .before .before .pre .1 in
+    (rw (c .spoil .ensures) (record { long = start .1 .long; counted = start .1 .counted }), λ m past. visit-missing _ _ _ _ (not-false _ (c .before .before .before .before .before .if1 .left)) (c .before .before .before .if2 .left) (sym (found-same past _ _ (start .0)) ∙ sym (c .before .before .found .ensures .0) ∙ c .before .if3 .left) (c .spoil .ensures))
 
 pub +causes+visit-spec : {M : Type 1} → statement M
 +causes+visit-spec = close μ-causes μ-visit (λ t. causes-lts.spec (causes-claims t)
@@ -141,7 +158,12 @@ pub +causes+visit-spec : {M : Type 1} → statement M
     causes.Post
     causes-Inv-loop
     causes-μ-loop
-    (causes-causes-held-requires t)
+    (causes-sub-set t)
+    (causes-mul-set t)
+    (causes-mul-set-2 t)
+    (causes-add-set t)
+    (causes-mul-set-3 t)
+    (causes-element-copy-out-set t)
     (causes-loop-holds t)
     (causes-has-requires t)
     (causes-hop-requires t)

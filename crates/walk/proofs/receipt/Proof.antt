@@ -1,31 +1,26 @@
--- `walk::receipt` meets its contract: behind the eighth store nothing is held. Assumes nothing.
-use lib.ListN.{length-map}
-use Rattle.walk.proofs.Behind.{no-receipt}
-use Rattle.walk.specs.Walk.{receiptOf}
+-- `walk::receipt` meets its contract: by its tests. Assumes nothing.
+use borrow.Author.Tests.{le-leb, lt-leb}
 use borrow.Author.Needs.{needs}
 use Rattle.walk.proofs.receipt.Statement.{statement}
 use Rattle.walk.proofs.receipt.Tie as tie
 
 returns : tie.Need-returns
-returns c = no-receipt _ (simp length-map at (c .before .good .0 .1 .1 .1 .1 .1 .1 .1 .1 .1 .1 .1 .1 .1 .1 .1 .1 .1 .0 .1 .0 .1)) _ _ (c .if1 .taken)
+returns c = simp (le-leb _ _ (c .if1 .taken))
 
-mul-contents : tie.Need-mul-contents
-mul-contents c = search needs
+mul-if2 : tie.Need-mul-if2
+mul-if2 c = search needs
 
-mul-contents-2 : tie.Need-mul-contents-2
-mul-contents-2 c = search needs
+mul-if2-2 : tie.Need-mul-if2-2
+mul-if2-2 c = search needs
 
-add-contents : tie.Need-add-contents
-add-contents c = search needs
+add-if2 : tie.Need-add-if2
+add-if2 c = search needs
 
-add-contents-2 : tie.Need-add-contents-2
-add-contents-2 c = search needs
+add-if2-2 : tie.Need-add-if2-2
+add-if2-2 c = search needs
 
-mul-contents-3 : tie.Need-mul-contents-3
-mul-contents-3 c = search needs
-
-element-copy-out-contents : tie.Need-element-copy-out-contents
-element-copy-out-contents c = search needs
+element-copy-out-if2 : tie.Need-element-copy-out-if2
+element-copy-out-if2 c = search needs
 
 mul-wide : tie.Need-mul-wide
 mul-wide c = search needs
@@ -46,24 +41,21 @@ wide-requires : tie.Need-wide-requires
 wide-requires c κs = search needs
 
 returns-2 : tie.Need-returns-2
-unfolding receiptOf
-returns-2 c = simp (c .before .before .if2 .taken, c .wide .ensures)
+returns-2 c = simp (lt-leb _ _ (c .before .before .before .before .if1 .left), c .before .before .if2 .taken, c .wide .ensures)
 
 returns-3 : tie.Need-returns-3
-unfolding receiptOf
-returns-3 c = simp (c .if2 .left)
+returns-3 c = simp (lt-leb _ _ (c .before .before .if1 .left), c .if2 .left)
 
 pub receipt-spec : {M : Type 1} → statement M
 receipt-spec =
     tie.close
     (tie.spec
     returns
-    mul-contents
-    mul-contents-2
-    add-contents
-    add-contents-2
-    mul-contents-3
-    element-copy-out-contents
+    mul-if2
+    mul-if2-2
+    add-if2
+    add-if2-2
+    element-copy-out-if2
     mul-wide
     mul-wide-2
     add-wide

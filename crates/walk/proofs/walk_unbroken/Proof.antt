@@ -1,10 +1,14 @@
--- `walk::walk_unbroken` meets its contract: an unbroken machine has sixteen interactions at most, so depth 16 suffices. Assumes nothing.
-use Rattle.walk.proofs.Counted.{tally-unmet}
+-- `walk::walk_unbroken` meets its contract: an unbroken machine has sixteen interactions at most, so depth 16 suffices; the arrays
+-- that the walk takes from it are its own (proofs/Taken). Assumes nothing.
+use Prim.Native.Nat.{_<_}
+use native.Mathlib.Nat.{add-zero}
+use native.Mathlib.Omega.{arith}
+use lib.ListN.{length-map}
+use borrow.Author.Tests.{le-leb, lt-leb}
 use Rattle.machine.proofs.Laws.{unbroken}
 use Rattle.walk.specs.Walk.{walkedFrom, walkOf}
-use native.Mathlib.Nat.{add-zero}
-use borrow.Author.Tests.{le-leb, lt-leb}
-use native.Mathlib.Omega.{arith}
+use Rattle.walk.proofs.Counted.{tally-unmet}
+use Rattle.walk.proofs.Taken.{taken}
 use borrow.Author.Needs.{needs}
 use Rattle.walk.proofs.walk_unbroken.Statement.{statement}
 use Rattle.walk.proofs.walk_unbroken.Tie as tie
@@ -25,19 +29,36 @@ mul-view-2 c = search needs
 element-copy-out-view : tie.Need-element-copy-out-view
 element-copy-out-view c = omega (arith, unbroken _ (c .before .pre) .made16)
 
+all-closed-requires : tie.Need-all-closed-requires
+all-closed-requires c κs = search needs
+
+all-held-requires : tie.Need-all-held-requires
+all-held-requires c κs = search needs
+
+all-causes-requires : tie.Need-all-causes-requires
+all-causes-requires c κs = search needs
+
+all-links-requires : tie.Need-all-links-requires
+all-links-requires c κs = search needs
+
 link-requires : tie.Need-link-requires
 link-requires c κs = search needs
 
 visit-requires : tie.Need-visit-requires
-visit-requires c κs = (omega (arith, unbroken _ (c .before .before .before .pre) .made16), tally-unmet)
+visit-requires c κs = (omega (arith, unbroken _ (c .before .before .before .before .before .before .before .before .before .before .before .before .before .before .before .before .before .before .pre) .made16), tally-unmet)
 
 answer-requires : tie.Need-answer-requires
 answer-requires c κs = search needs
 
 returns-2 : tie.Need-returns-2
 unfolding walkOf walkedFrom
-returns-2 c = let e = c .before .visit .ensures .1 16 (omega (arith, unbroken _ (c .before .before .before .before .before .pre) .made16)) in
-    simp (c .before .before .before .before .before .pre, lt-leb _ _ (c .before .before .before .before .if1 .left), add-zero, c .answer .ensures, e, c .before .before .link .ensures)
+returns-2 c =
+    let start = c .before .before .before .before .before .before .before .before .before .before .before .before .before .before .before .before .before .before .before .before in
+    let long = simp length-map at (start .good .0 .1 .1 .1 .1 .1 .1 .1 .1 .1 .1 .1 .1 .1 .1 .1 .1 .1 .0 .1 .0 .1) in
+    let past = taken (start .args .t1) long (c .before .before .before .before .before .before .before .before .before .before .before .before .all-closed .ensures) (c .before .before .before .before .before .before .before .before .before .before .before .all-held .ensures) (c .before .before .before .before .before .before .before .before .before .before .all-causes .ensures) (c .before .before .before .before .before .before .before .before .before .all-links .ensures) in
+    let low : start .args .key < 16 = omega (arith, unbroken _ (start .pre) .made16, c .before .before .before .before .before .before .before .before .before .before .before .before .before .before .before .before .before .before .before .if1 .left) in
+    let e = c .before .visit .ensures .1 (start .args .t1) past 16 low in
+    simp (start .pre, lt-leb _ _ (c .before .before .before .before .before .before .before .before .before .before .before .before .before .before .before .before .before .before .before .if1 .left), add-zero, c .answer .ensures, e, c .before .before .link .ensures)
 
 pub walk-unbroken-spec : {M : Type 1} → statement M
 walk-unbroken-spec =
@@ -48,6 +69,10 @@ walk-unbroken-spec =
     mul-view
     mul-view-2
     element-copy-out-view
+    all-closed-requires
+    all-held-requires
+    all-causes-requires
+    all-links-requires
     link-requires
     visit-requires
     answer-requires

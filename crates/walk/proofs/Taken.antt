@@ -1,0 +1,60 @@
+-- What the walk takes from a machine says what the machine says: each read of the arrays is a read of the machine. Assumes nothing.
+use Prim.Native.Nat.{ℕ, _+_, _*_, _-_, _≤_, _<_}
+use mathlib.Core.Path.{_≡_, refl, ap, _∙_}
+use mathlib.Core.Bool.{Bool, false}
+use mathlib.Core.List.{List}
+use native.Mathlib.Omega.{arith}
+use native.Mathlib.Decide.{decLt}
+use lib.ListN.{length, getD}
+use borrow.Author.Tests.{le-leb, lt-leb, ne-eqb}
+use Rattle.machine.specs.Words.{table}
+use Rattle.machine.specs.Slots.{number, place, linksPlace}
+use Rattle.machine.specs.Closed.{closedOf}
+use Rattle.machine.specs.declared.Machine.{Machine}
+use Rattle.machine.proofs.Laws.Every.{table-at}
+use Rattle.walk.proofs.Behind.{nothing-held}
+use Rattle.walk.specs.Walk.{foundOf, causesHeld, receiptOf, hopOf}
+use Rattle.walk.specs.Past.{closedIn, heldIn, causesIn, LaidOut, Past, foundIn, receiptIn, hopIn}
+
+closed-same : (m : Machine) (k : ℕ) → closedIn (m .views) (m .repairs) (m .entries) k ≡ closedOf m k
+unfolding closedOf
+closed-same m k = refl
+
+pub taken : (m : Machine) → length (m .contents) ≡ 256 → {closed held : List Bool} {causes links : List ℕ}
+    → closed ≡ table (closedIn (m .views) (m .repairs) (m .entries)) 16 → held ≡ table (heldIn (m .contents)) 256 → causes ≡ table (causesIn (m .contents)) 256
+    → LaidOut 128 (m .links) links → Past m closed held causes links (m .viewlinks)
+taken m long {closed} {held} {causes} {links} c h s l =
+    record {
+      long = long;
+      closedAt = λ k b. rw c (table-at (closedIn (m .views) (m .repairs) (m .entries)) 16 false k b ∙ closed-same m k);
+      heldAt = λ i b. rw h (table-at (heldIn (m .contents)) 256 false i b);
+      causesAt = λ i b. rw s (table-at (causesIn (m .contents)) 256 0 i b);
+      linksAt = l;
+      viewlinksAt = refl;
+    }
+
+module _ {m : Machine} {closed held : List Bool} {causes links viewlinks : List ℕ} (past : Past m closed held causes links viewlinks) where
+  pub found-same : (k link : ℕ) → k < 16 → foundIn closed held k link ≡ foundOf m k link
+  unfolding foundOf
+  found-same k link b =
+      elim (decLt 8 link) [
+        | yes q ↦ simp (ne-eqb link 0 (λ e. omega arith), lt-leb link 8 q, nothing-held m (past .long) (link - 1) (number k 0) (omega arith))
+        | no q ↦ simp (le-leb link 8 (omega arith), past .heldAt (place (link - 1) (number k 0)) (omega arith), past .closedAt k b)
+      ]
+
+  receipt-same : (p j : ℕ) → j < 16 → receiptIn held viewlinks p j ≡ receiptOf m p j
+  unfolding receiptOf
+  receipt-same p j b =
+      elim (decLt p 8) [
+        | yes q ↦ rw (past .viewlinksAt) (simp (lt-leb 8 p q, past .heldAt (place p (number j 1)) (omega arith)))
+        | no q ↦ simp (le-leb 8 p (omega arith), nothing-held m (past .long) p (number j 1) (omega arith))
+      ]
+
+  pub hop-same : (k link j : ℕ) → k < 16 → 1 ≤ link → link ≤ 8 → j < 16 → hopIn held links viewlinks k link j ≡ hopOf m k link j
+  unfolding hopOf
+  hop-same k link j b low high s = rw (past .linksAt .laid (linksPlace (link - 1) k) j (omega arith) s) (receipt-same _ j s)
+
+  pub causes-same : (k link : ℕ) → k < 16 → 1 ≤ link → link ≤ 8 → getD causes ((link - 1) * 32 + k * 2) 0 ≡ causesHeld m k link
+  causes-same k link b low high =
+      let e : (link - 1) * 32 + k * 2 ≡ place (link - 1) (number k 0) = omega arith in
+      past .causesAt ((link - 1) * 32 + k * 2) (omega arith) ∙ ap (causesIn (m .contents)) e

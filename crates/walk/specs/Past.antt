@@ -1,0 +1,69 @@
+-- What the walk takes from a machine before it goes: arrays that are lent, so that no visit copies the machine.
+use Prim.Native.Nat.{ℕ, _+_, _*_, _-_, _≤_, _<_}
+use mathlib.Core.Path.{_≡_}
+use mathlib.Core.Bool.{Bool, false, _&&_, not}
+use mathlib.Core.List.{List}
+use lib.Dec.{leb, eqb}
+use lib.ListN.{length, getD}
+use Rattle.machine.specs.Words.{pick, table}
+use Rattle.machine.specs.Slots.{number, place, linksPlace, noView, noRepair, noEntry, noContents, noLinks, statusNumber}
+use Rattle.machine.specs.Closed.{closedOf}
+use Rattle.machine.specs.declared.Machine.{Machine}
+use Rattle.machine.specs.declared.View.{View}
+use Rattle.machine.specs.declared.Repair.{Repair}
+use Rattle.machine.specs.declared.Entry.{Entry}
+use Rattle.machine.specs.declared.Contents.{Contents}
+use Rattle.machine.specs.declared.Links.{Links}
+
+-- a view that rests: in phase 5, no repair in flight, no entry to-send or waiting
+abbrev pub restsIn : View → Repair → Entry → Bool
+restsIn view repair entry =
+    eqb (view .phase) 5 && not (repair .flying) && not (eqb (statusNumber (entry .status)) 1)
+    && not (eqb (statusNumber (entry .status)) 2)
+
+-- the keys that are closed
+abbrev pub closedIn : List View → List Repair → List Entry → ℕ → Bool
+closedIn views repairs entries k =
+    restsIn (getD views (number k 0) noView) (getD repairs (number k 0) noRepair) (getD entries (number k 0) noEntry)
+    && restsIn (getD views (number k 1) noView) (getD repairs (number k 1) noRepair) (getD entries (number k 1) noEntry)
+
+-- by place, whether contents are held, and their causes
+abbrev pub heldIn : List Contents → ℕ → Bool
+heldIn contents i = getD contents i noContents .held
+
+abbrev pub causesIn : List Contents → ℕ → ℕ
+causesIn contents i = getD contents i noContents .causes
+
+-- the first n of the sixteen cause links of a sender are laid from `at`; what stands before stays
+pub record Laid (n at : ℕ) (links before after : List ℕ) : Type 0 where
+  pub low : n ≤ 16
+  pub long : length after ≡ length before
+  pub laid : (j : ℕ) → j < n → getD after (at + j) 0 ≡ getD links j 0
+  pub stays : (i : ℕ) → i < at → getD after i 0 ≡ getD before i 0
+
+-- the cause links of the first n senders' places, sixteen for each
+pub record LaidOut (n : ℕ) (links : List Links) (out : List ℕ) : Type 0 where
+  pub low : n ≤ 128
+  pub long : length out ≡ 2048
+  pub laid : (i j : ℕ) → i < n → j < 16 → getD out (i * 16 + j) 0 ≡ getD (getD links i noLinks .to) j 0
+
+-- the arrays are those of the machine
+pub record Past (m : Machine) (closed held : List Bool) (causes links viewlinks : List ℕ) : Type 0 where
+  pub long : length (m .contents) ≡ 256
+  pub closedAt : (k : ℕ) → k < 16 → getD closed k false ≡ closedOf m k
+  pub heldAt : (i : ℕ) → i < 256 → getD held i false ≡ heldIn (m .contents) i
+  pub causesAt : (i : ℕ) → i < 256 → getD causes i 0 ≡ causesIn (m .contents) i
+  pub linksAt : LaidOut 128 (m .links) links
+  pub viewlinksAt : viewlinks ≡ m .viewlinks
+
+-- as `foundOf`, `receiptOf` and `hopOf`, in these arrays; no store is behind the eighth
+abbrev pub foundIn : List Bool → List Bool → ℕ → ℕ → Bool
+foundIn closed held k link =
+    pick (leb link 8) (not (eqb link 0) && getD held (place (link - 1) (number k 0)) false && getD closed k false) false
+
+abbrev pub receiptIn : List Bool → List ℕ → ℕ → ℕ → ℕ
+receiptIn held viewlinks p j =
+    pick (leb 8 p) 0 (pick (getD held (place p (number j 1)) false) (getD viewlinks (place p (number j 1)) 0) 0)
+
+abbrev pub hopIn : List Bool → List ℕ → List ℕ → ℕ → ℕ → ℕ → ℕ
+hopIn held links viewlinks k link j = receiptIn held viewlinks (getD links (linksPlace (link - 1) k * 16 + j) 0) j
