@@ -98,6 +98,6 @@ module _ {m : Machine} {s : Step} {b : About} {a v p : ℕ} (f : Found m s b a v
             room-of m low v a odd (rw (← named-is unnamed) at (key-low m low s e unnamed (rw (← named-is unnamed) odd)))
             (f .acted ∙ ap (λ (t : Bool). pick t (b .actor) (view m v .actor)) (ap (λ (c : About). c .acting) (f .about) ∙ unnamed));
       }
-      where
-        named-is : aboutOf s .acting ≡ false → v ≡ aboutOf s .view
-        named-is unnamed = view-is ∙ ap (λ (t : Bool). pick t (head m (aboutOf s .actor)) (aboutOf s .view)) unnamed
+    where
+      named-is : aboutOf s .acting ≡ false → v ≡ aboutOf s .view
+      named-is unnamed = view-is ∙ ap (λ (t : Bool). pick t (head m (aboutOf s .actor)) (aboutOf s .view)) unnamed

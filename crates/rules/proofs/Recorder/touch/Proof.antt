@@ -18,7 +18,7 @@ refused-requires : tie.Need-refused-requires
 refused-requires c κs = search needs
 
 returns : tie.Need-returns
-returns c = 
+returns c =
     let start = c .before .before .before .before in
     let m = start .args .self .machine in
     let outside : outsideOf (m .stores) (m .actors) (m .made) (start .args .s) ≡ true = cc (c .before .before .names-outside .ensures, c .before .if1 .taken) in
@@ -34,7 +34,7 @@ mul-named : tie.Need-mul-named
 mul-named c = search needs
 
 element-copy-out-named : tie.Need-element-copy-out-named
-element-copy-out-named c = 
+element-copy-out-named c =
     let start = c .before .before .before .before .before in
     let m = start .args .self .machine in
     let inside : outsideOf (m .stores) (m .actors) (m .made) (start .args .s) ≡ false = cc (c .before .before .before .names-outside .ensures, c .before .before .if1 .left) in
@@ -45,7 +45,7 @@ element-copy-out-view-of : tie.Need-element-copy-out-view-of
 element-copy-out-view-of c = search needs
 
 view-of-requires : tie.Need-view-of-requires
-view-of-requires c κs = 
+view-of-requires c κs =
     let start = c .before .before .before .before .before .before .before in
     let m = start .args .self .machine in
     let inside : outsideOf (m .stores) (m .actors) (m .made) (start .args .s) ≡ false = cc (c .before .before .before .before .before .names-outside .ensures, c .before .before .before .before .if1 .left) in
@@ -65,7 +65,7 @@ element-copy-out-e : tie.Need-element-copy-out-e
 element-copy-out-e c = search needs
 
 actor-of-requires : tie.Need-actor-of-requires
-actor-of-requires c κs = 
+actor-of-requires c κs =
     let start = c .before .before .before .before .before .before .before .before .before .before in
     let m = start .args .self .machine in
     let inside : outsideOf (m .stores) (m .actors) (m .made) (start .args .s) ≡ false = cc (c .before .before .before .before .before .before .before .before .names-outside .ensures, c .before .before .before .before .before .before .before .if1 .left) in
@@ -73,7 +73,7 @@ actor-of-requires c κs =
     (rw about (actor-low m (start .pre .0) (start .args .s) inside), start .pre .0 .actorIn8 _ (c .before .before .view-of .ensures .1))
 
 store-of-requires : tie.Need-store-of-requires
-store-of-requires c κs = 
+store-of-requires c κs =
     let start = c .before .before .before .before .before .before .before .before .before .before .before in
     let m = start .args .self .machine in
     let inside : outsideOf (m .stores) (m .actors) (m .made) (start .args .s) ≡ false = cc (c .before .before .before .before .before .before .before .before .before .names-outside .ensures, c .before .before .before .before .before .before .before .before .if1 .left) in
@@ -174,7 +174,7 @@ element-copy-out-t91 : tie.Need-element-copy-out-t91
 element-copy-out-t91 c = search needs
 
 rule-requires : tie.Need-rule-requires
-rule-requires c κs = 
+rule-requires c κs =
     let start = c .before .before .before .before .before .before .before .before .before .before .before .before .before .before .before .before .before .before .before .before .before .before .before .before .before .before .before in
     let m = start .args .self .machine in
     let inside : outsideOf (m .stores) (m .actors) (m .made) (start .args .s) ≡ false = cc (c .before .before .before .before .before .before .before .before .before .before .before .before .before .before .before .before .before .before .before .before .before .before .before .before .before .names-outside .ensures, c .before .before .before .before .before .before .before .before .before .before .before .before .before .before .before .before .before .before .before .before .before .before .before .before .if1 .left) in
