@@ -5,7 +5,7 @@ use mathlib.Core.Bool.{Bool, false, _&&_, not}
 use mathlib.Core.List.{List}
 use lib.Dec.{leb, eqb}
 use lib.ListN.{length, getD}
-use Rattle.machine.specs.Words.{pick, table}
+use Rattle.machine.specs.Words.{pick}
 use Rattle.machine.specs.Slots.{number, place, linksPlace, noView, noRepair, noEntry, noContents, noLinks, statusNumber}
 use Rattle.machine.specs.Closed.{closedOf}
 use Rattle.machine.specs.declared.Machine.{Machine}

@@ -125,7 +125,8 @@ fn both(a: bool, b: bool) -> bool
     false
 }
 
-// The walk takes from a machine once what it reads there, as arrays that each visit is lent: a machine would be copied.
+// What the walk reads of a machine it takes from it once, as arrays that each visit is lent; a machine would be copied.
+//
 // The keys that are closed.
 fn all_closed(views: [View; 32], repairs: [Repair; 32], entries: [Entry; 32]) -> [bool; 16]
     ensures { λ r. ⌜ r ≡ table (closedIn views repairs entries) 16 ⌝ }
@@ -328,13 +329,13 @@ fn walk_unbroken(m: Machine, key: u8) -> Walked
     let closed = all_closed(views, repairs, entries);
     let held = all_held(contents);
     let sets = all_causes(contents);
-    let out = all_links(links);
+    let laid = all_links(links);
     let walked = visit(
         unmet,
         &closed,
         &held,
         &sets,
-        &out,
+        &laid,
         &m.viewlinks,
         k,
         link(view.store),

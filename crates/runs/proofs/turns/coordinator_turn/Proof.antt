@@ -1,5 +1,4 @@
 -- Each exit by the tests before it, which speak of the lowest that the searches found. Assumes nothing.
-use native.Mathlib.Omega.{arith}
 use borrow.Author.Tests.{lt-ltb, le-ltb}
 use borrow.Author.Needs.{needs}
 use Rattle.runs.specs.Drain.{entryStep}

@@ -1,10 +1,10 @@
 -- Each exit by the tests before it, which speak of the lowest that the searches found. Assumes nothing.
+use Prim.Native.Nat.{ℕ}
+use mathlib.Core.Path.{_≡_, refl, _∙_}
+use mathlib.Core.List.{List}
+use denote.Ref.{now}
 use borrow.Author.Tests.{lt-ltb, le-ltb}
 use borrow.Author.Needs.{needs}
-use mathlib.Core.Path.{_≡_, refl, _∙_}
-use Prim.Native.Nat.{ℕ}
-use denote.Ref.{now}
-use mathlib.Core.List.{List}
 use Rattle.machine.specs.Writes.{withUpdates, withUacks}
 use Rattle.machine.specs.declared.Machine.{Machine}
 use Rattle.runs.specs.Drain.{jobStep, entryStep, turnOf}
