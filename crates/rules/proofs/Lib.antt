@@ -3,4 +3,5 @@ pub mod Inside
 pub mod Kit
 pub mod Loops
 pub mod Standing
+pub mod Taking
 pub mod Unbroken

@@ -16,5 +16,6 @@ pub mod Lose
 pub mod Crash
 pub mod Restart
 pub mod Step
+pub mod Steps
 pub mod About
 pub mod Slots

@@ -20,6 +20,7 @@ mod send;
 mod send_record;
 mod send_update;
 mod slots;
+mod steps;
 mod take_ack;
 mod take_record;
 mod take_repair;

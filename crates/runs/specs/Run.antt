@@ -1,7 +1,7 @@
 -- What a run of a book gives: the result and the answer buffer.
 use Prim.Native.Nat.{ℕ}
 use mathlib.Core.Bool.{Bool, not}
-use mathlib.Core.List.{List, [], _∷_, _++_}
+use mathlib.Core.List.{List, _++_}
 use lib.Dec.{ltb, eqb}
 use lib.ListN.{length, drop}
 use Rattle.machine.specs.Words.{pick, times}
@@ -9,18 +9,9 @@ use Rattle.machine.specs.Setup.{legal, freshWith, emptyMachine}
 use Rattle.machine.specs.declared.Machine.{Machine}
 use Rattle.machine.specs.declared.Setup.{Setup}
 use Rattle.rules.specs.declared.Step.{Step}
-use Rattle.rules.specs.Step.{stepOf}
+pub use Rattle.rules.specs.Steps.{ran, answers}
 use Rattle.runs.specs.Book.{wellFormed, setupRead, stepsFrom, countOf, startOf}
 use Rattle.runs.specs.declared.Ran.{Ran}
-
--- A refused step doesn't stop the run: the machine after a list of steps, and the number of each
-unfoldable pub ran : Machine → List Step → Machine
-ran m [] = m
-ran m (step ∷ steps) = ran (stepOf m step .machine) steps
-
-unfoldable pub answers : Machine → List Step → List ℕ
-answers m [] = []
-answers m (step ∷ steps) = stepOf m step .answer ∷ answers (stepOf m step .machine) steps
 
 -- the steps of a book, and the fresh machine of its setup
 abbrev pub stepsRead : List ℕ → List Step

@@ -1,0 +1,70 @@
+-- The loop that takes steps one by one has taken the list of them: what is left to take from here, from m, with i answers
+-- written, gives what all gives from the start. Assumes nothing.
+use Prim.Native.Nat.{ℕ, suc, _+_, _≤_, _<_}
+use mathlib.Core.Path.{_≡_, refl, sym, ap, _∙_}
+use mathlib.Core.Bool.{Bool, false}
+use mathlib.Core.List.{List, [], _∷_, _++_, append-nil}
+use native.Mathlib.Numerals.{add-one}
+use native.Mathlib.Omega.{arith}
+use native.Mathlib.Nat.{le-antisymm}
+use lib.ListN.{length, take, drop, getD, set, length-set}
+use lib.Seq.{take-suc-set, drop-cons, getD-take, length-take-le, drop-length, append-snoc}
+use Rattle.machine.specs.Broken.{brokenOf}
+use Rattle.machine.specs.declared.Machine.{Machine}
+use Rattle.machine.specs.declared.Answered.{Answered}
+use Rattle.rules.specs.Step.{ruleOf, stepOf}
+use Rattle.rules.specs.Steps.{ran, answers}
+use Rattle.rules.specs.declared.Step.{Step}
+use Rattle.rules.proofs.Unbroken.{ruled}
+
+pub record Taking (steps : List Step) (n : ℕ) (m₀ m : Machine) (written : List ℕ) (i : ℕ) : Type 0 where
+  pub low : i ≤ n
+  pub few : n ≤ 64
+  pub sized : length steps ≡ 64
+  pub long : length written ≡ 64
+  pub unbroken : brokenOf m ≡ false
+  pub machine : ran m (drop i (take n steps)) ≡ ran m₀ (take n steps)
+  pub numbers : take i written ++ answers m (drop i (take n steps)) ≡ answers m₀ (take n steps)
+
+pub take-start : {steps : List Step} {n : ℕ} {m : Machine} {written : List ℕ} → n ≤ 64 → length steps ≡ 64 → length written ≡ 64 → brokenOf m ≡ false → Taking steps n m m written 0
+take-start f k l e = record { low = omega arith; few = f; sized = k; long = l; unbroken = e; machine = refl; numbers = refl }
+
+abbrev pub Keeping : Type 0
+Keeping = (m : Machine) (s : Step) → brokenOf m ≡ false → brokenOf (stepOf m s .machine) ≡ false
+
+module _ {steps : List Step} {n : ℕ} {m₀ m : Machine} {written : List ℕ} {i : ℕ} (h : Taking steps n m₀ m written i) where
+  fits : n ≤ length steps
+  fits = omega (arith, h .few, h .sized)
+
+  -- the step at i is the first that is left
+  left-is : i < n → (d : Step) → drop i (take n steps) ≡ getD steps i d ∷ drop (i + 1) (take n steps)
+  left-is b d =
+      let l : i < length (take n steps) = omega (arith, length-take-le n steps fits) in
+      rw add-one (drop-cons (take n steps) i d l ∙ ap (λ (s : Step). s ∷ drop (suc i) (take n steps)) (getD-take n steps i d b))
+
+  pub take-step : Keeping → i < n → (d : Step) {r : Answered} → r ≡ ruleOf m (getD steps i d)
+      → Taking steps n m₀ (r .machine) (set written i (r .answer)) (i + 1)
+  unfolding ran answers
+  take-step keeps b d {r} e =
+      let s = getD steps i d in
+      let q : r ≡ stepOf m s = e ∙ ruled m s (h .unbroken) in
+      let f : drop i (take n steps) ≡ s ∷ drop (i + 1) (take n steps) = left-is b d in
+      let j : i < length written = omega (arith, h .long, h .few) in
+      let rest = answers (stepOf m s .machine) (drop (i + 1) (take n steps)) in
+      let x : take (i + 1) (set written i (r .answer)) ≡ take i written ++ (r .answer ∷ []) = rw add-one (take-suc-set written i (r .answer) j) in
+      record {
+        low = omega arith;
+        few = h .few;
+        sized = h .sized;
+        long = length-set written i (r .answer) ∙ h .long;
+        unbroken = rw q (keeps m s (h .unbroken));
+        machine = rw q (rw f at (h .machine));
+        numbers = rw (x, q) (append-snoc (take i written) (stepOf m s .answer) rest ∙ rw f at (h .numbers));
+      }
+
+  pub take-end : n ≤ i → (m ≡ ran m₀ (take n steps)) × (take n written ≡ answers m₀ (take n steps))
+  unfolding ran answers
+  take-end b =
+      let q : i ≡ n = le-antisymm (h .low) b in
+      let f : drop i (take n steps) ≡ [] = ap (λ (k : ℕ). drop k (take n steps)) (q ∙ sym (length-take-le n steps fits)) ∙ drop-length (take n steps) in
+      (rw f at (h .machine), ap (λ (k : ℕ). take k written) (sym q) ∙ (sym (append-nil (take i written)) ∙ rw f at (h .numbers)))
