@@ -10,6 +10,12 @@ ghost use Rattle.rules.specs.Steps.{answers, ran};
 ghost use Rattle.rules.specs.declared.Step.{Step as Taken};
 use crate::Recorder;
 use crate::Step;
+use crate::about::about_of;
+use crate::about::actor_of;
+use crate::about::names_outside;
+use crate::about::store_of;
+use crate::about::view_of;
+use crate::slots::Slots;
 use machine::Machine;
 
 // The machine after some steps, and the number of each.
@@ -19,7 +25,8 @@ pub struct Many {
 }
 
 impl Recorder {
-    // The first n steps, for who knows the machine to be unbroken, and that no step breaks it.
+    // The first n steps, for who knows the machine to be unbroken, and that no step breaks it. Of the machine only the slots
+    // that a step is about are read and written, where they stand; send and pre-check look back, and so take it whole.
     pub fn steps_unbroken(self, steps: [Step; 64], n: usize) -> Many
         requires { ⌜ (n ≤ 64) × (brokenOf (self .machine) ≡ false) ⌝ }
         requires { ⌜ ((m : State) (s : Taken) → brokenOf m ≡ false → brokenOf (stepOf m s .machine) ≡ false) ⌝ }
@@ -30,10 +37,84 @@ impl Recorder {
         let mut i: usize = 0;
         while i < n {
             let s = steps[i];
-            let r = Recorder { machine: m }.rule(s);
-            answers[i] = r.answer;
-            let next = r.machine;
-            m = next;
+            let b = about_of(s);
+            if b.back {
+                let r = Recorder { machine: m }.rule(s);
+                let next = r.machine;
+                m = next;
+                answers[i] = r.answer;
+                i += 1;
+                continue;
+            }
+            if names_outside(s, m.stores, m.actors, m.made) {
+                answers[i] = 2;
+                i += 1;
+                continue;
+            }
+            let named = m.queues[b.actor as usize];
+            let v = view_of(b.acting, named.views[0], b.view);
+            let w = m.views[v];
+            let e = m.entries[v];
+            let a = actor_of(b.acting, b.actor, w.actor);
+            let p = store_of(b.whose, b.store, w.store, e.destination);
+            let k = v / 2;
+            let o = k * 2 + (1 - v % 2);
+            let at = p * 32 + v;
+            let over = p * 32 + o;
+            let sender = p * 16 + k;
+            let queue = m.queues[a];
+            let message = m.messages[k];
+            let repair = m.repairs[v];
+            let other = m.entries[o];
+            let contents = m.contents[at];
+            let links = m.links[sender];
+            let x = Slots {
+                number: v,
+                store: p as u8,
+                home: m.homes[a],
+                list: m.lists[a],
+                queue,
+                message,
+                view: w,
+                repair,
+                entry: e,
+                other,
+                up: m.up[p],
+                records: m.records[at],
+                acks: m.acks[at],
+                updates: m.updates[at],
+                uacks: m.uacks[at],
+                contents,
+                links,
+                viewlink: m.viewlinks[at],
+                across: m.viewlinks[over],
+            };
+            let t = x.rule(s);
+            let y = t.slots;
+            let queue = y.queue;
+            let message = y.message;
+            let view = y.view;
+            let repair = y.repair;
+            let entry = y.entry;
+            let other = y.other;
+            let contents = y.contents;
+            let links = y.links;
+            m.queues[a] = queue;
+            m.messages[k] = message;
+            m.views[v] = view;
+            m.repairs[v] = repair;
+            m.entries[v] = entry;
+            m.entries[o] = other;
+            m.up[p] = y.up;
+            m.records[at] = y.records;
+            m.acks[at] = y.acks;
+            m.updates[at] = y.updates;
+            m.uacks[at] = y.uacks;
+            m.contents[at] = contents;
+            m.links[sender] = links;
+            m.viewlinks[at] = y.viewlink;
+            m.viewlinks[over] = y.across;
+            answers[i] = t.answer;
             i += 1;
         }
         Many {
