@@ -1,3 +1,4 @@
+pub mod Some
 pub mod Passing
 pub mod Reading
 pub mod Running

@@ -1,28 +1,23 @@
--- The loop that runs the steps of a book one by one has run the list of its steps: what is left to run from here, from m, with i answers
+-- The loop that runs the steps of a book, some at a time, has run the list of its steps: what is left to run from here, from m, with i answers
 -- written and some taken, gives what all gives from the start. Assumes nothing.
 use Prim.Native.Nat.{ℕ, zero, suc, _+_, _-_, _≤_, _<_}
-use mathlib.Core.Path.{_≡_, refl, ap, _∙_}
-use mathlib.Core.Bool.{Bool, true, false}
+use mathlib.Core.Path.{_≡_, refl, sym, ap, _∙_}
+use mathlib.Core.Bool.{false}
 use mathlib.Core.List.{List, [], _∷_, _++_}
 use native.Mathlib.Omega.{arith}
-use native.Mathlib.Numerals.{add-one}
-use native.Mathlib.Nat.{add-assoc}
-use lib.Dec.{eqb}
-use lib.ListN.{length, set, drop, length-set}
-use lib.Seq.{sets, sets-eq}
-use Rattle.machine.specs.Words.{one, times}
+use lib.ListN.{length, take, drop, length-append}
+use lib.Seq.{sets, sets-eq, length-sets}
+use Rattle.machine.specs.Words.{times}
 use Rattle.machine.specs.Broken.{brokenOf}
 use Rattle.machine.specs.declared.Machine.{Machine}
-use Rattle.machine.specs.declared.Answered.{Answered}
-use Rattle.rules.specs.Step.{stepOf}
 use Rattle.rules.specs.declared.Step.{Step}
-use Rattle.keeps.proofs.Keeps.{step-keeps}
 use Rattle.runs.specs.declared.Read.{Read}
 use Rattle.runs.specs.declared.Read.the-variants.{Got, Bad}
 use Rattle.runs.specs.Book.{readStep, stepsFrom, onRead}
 use Rattle.runs.specs.Run.{ran, answers, filled, fullRun}
 use Rattle.runs.proofs.Formed.{answers-length}
-use Rattle.runs.proofs.Reading.{steps-bad, steps-got, steps-end}
+use Rattle.runs.proofs.Reading.{steps-bad, steps-end}
+use Rattle.runs.proofs.Some.{ran-append, answers-append, times-append, sets-append, ran-keeps}
 
 pub record Running (s : List ℕ) (n : ℕ) (a₀ : List ℕ) (p₀ : ℕ) (m₀ : Machine) (a : List ℕ) (p : ℕ) (m : Machine) (i taken : ℕ) : Type 0 where
   pub low : i ≤ n
@@ -39,27 +34,38 @@ run-start {s} {n} {a} {p} {m} h =
     let e : n - 0 ≡ n = omega arith in
     record { low = omega arith; few = omega arith; long = refl; unbroken = h; machine = rw e; steps = rw e (omega arith); zeros = rw e (omega arith); buffer = rw e }
 
-pub one-low : (b : Bool) → one b ≤ 1
-one-low true = omega arith
-one-low false = omega arith
-
 module _ {s : List ℕ} {n : ℕ} {a₀ : List ℕ} {p₀ : ℕ} {m₀ : Machine} {a : List ℕ} {p : ℕ} {m : Machine} {i taken : ℕ} (h : Running s n a₀ p₀ m₀ a p m i taken) where
-  pub run-step : {step : Step} {next : ℕ} {r : Answered} {b : List ℕ} {k : ℕ} → i < n → readStep s p ≡ Got step next → r ≡ stepOf m step
-      → b ≡ set a i (r .answer) → k ≡ one (eqb (r .answer) 0) → Running s n a₀ p₀ m₀ b next (r .machine) (i + 1) (taken + k)
-  unfolding ran answers times
-  run-step {step} {next} {r} {b} {k} j e q w o =
-      let f : stepsFrom s (n - i) p ≡ step ∷ stepsFrom s (n - i - 1) next = steps-got s (n - i) p (omega arith) e in
-      let g : n - i - 1 ≡ n - (i + 1) = omega arith in
+  -- some steps, which stand here, are taken at once
+  run-some : (xs : List Step) {c next : ℕ} {m′ : Machine} {b : List ℕ} {k : ℕ} → length xs ≡ c → i + c ≤ n
+      → stepsFrom s (c + (n - i - c)) p ≡ xs ++ stepsFrom s (n - i - c) next → m′ ≡ ran m xs → b ≡ sets a i (answers m xs) → k ≡ times 0 (answers m xs) → k ≤ c
+      → Running s n a₀ p₀ m₀ b next m′ (i + c) (taken + k)
+  run-some xs {c} {next} {m′} {b} {k} l j f q w o z =
+      let u : n - i ≡ c + (n - i - c) = omega arith in
+      let g : n - i - c ≡ n - (i + c) = omega arith in
+      let ys = stepsFrom s (n - (i + c)) next in
+      let e : stepsFrom s (n - i) p ≡ xs ++ ys = ap (λ (t : ℕ). stepsFrom s t p) u ∙ (f ∙ ap (λ (t : ℕ). xs ++ stepsFrom s t next) g) in
+      let v : answers m (xs ++ ys) ≡ answers m xs ++ answers (ran m xs) ys = answers-append m xs ys in
+      let t : length (answers m xs) ≡ c = answers-length m xs ∙ l in
       record {
-        low = omega arith;
-        few = omega (arith, one-low (eqb (r .answer) 0));
-        long = ap length w ∙ length-set a i (r .answer) ∙ h .long;
-        unbroken = rw q (step-keeps m step (h .unbroken));
-        machine = rw (← g, q) (rw f at (h .machine));
-        steps = rw (← g) (omega (arith, rw f at (h .steps)));
-        zeros = rw (← g, o, add-assoc, q) (rw f at (h .zeros));
-        buffer = rw (w, add-one, ← add-one, ← g, add-one, q) (rw f at (h .buffer));
+        low = j;
+        few = omega (arith, h .few);
+        long = ap length w ∙ (length-sets a i (answers m xs) ∙ h .long);
+        unbroken = rw q (ran-keeps m xs (h .unbroken));
+        machine = rw q (sym (ran-append m xs ys) ∙ rw e at (h .machine));
+        steps = omega (arith, l, length-append xs ys, rw e at (h .steps));
+        zeros = rw (q, o) (omega (arith, times-append 0 (answers m xs) (answers (ran m xs) ys), rw (e, v) at (h .zeros)));
+        buffer = rw (q, w) (ap (λ (x : ℕ). sets (sets a i (answers m xs)) (i + x) (answers (ran m xs) ys)) (sym t) ∙ (sym (sets-append a i (answers m xs) (answers (ran m xs) ys)) ∙ rw (e, v) at (h .buffer)));
       }
+
+  -- as the code has them: counted, read into an array, and their answers in another
+  pub run-batch : {c next : ℕ} (steps : List Step) (given : List ℕ) {m′ : Machine} {b : List ℕ} {k : ℕ} → i + c ≤ n → length (stepsFrom s c p) ≡ c
+      → ((t : ℕ) → stepsFrom s (c + t) p ≡ stepsFrom s c p ++ stepsFrom s t next) → take (length (stepsFrom s c p)) steps ≡ stepsFrom s c p
+      → (m′ ≡ ran m (take c steps)) × (take c given ≡ answers m (take c steps)) → b ≡ sets a i (take c given) → (k ≡ times 0 (take c given)) × (k ≤ c)
+      → Running s n a₀ p₀ m₀ b next m′ (i + c) (taken + k)
+  run-batch {c} {next} steps given j l f e r w o =
+      let x : take c steps ≡ stepsFrom s c p = ap (λ (t : ℕ). take t steps) (sym l) ∙ e in
+      let y : take c given ≡ answers m (stepsFrom s c p) = r .1 ∙ ap (answers m) x in
+      run-some (stepsFrom s c p) l j (f (n - i - c)) (r .0 ∙ ap (ran m) x) (w ∙ ap (sets a i) y) (o .0 ∙ ap (times 0) y) (o .1)
 
 -- a buffer with the answers set one by one is filled
 sets-filled : (m : Machine) (steps : List Step) (a : List ℕ) → length steps ≤ length a → sets a 0 (answers m steps) ≡ filled m steps a
@@ -92,8 +98,10 @@ module _ {s : List ℕ} {n : ℕ} {a₀ : List ℕ} {p₀ : ℕ} {m₀ : Machine
       let w : a ≡ sets a₀ 0 (answers m₀ (stepsFrom s n p₀)) = rw e at (h .buffer) in
       (cc, w ∙ sets-filled m₀ (stepsFrom s n p₀) a₀ (omega (arith, steps-length s n p₀)))
 
-  pub run-bad : readStep s p ≡ Bad → Ended
-  run-bad e = ended (steps-bad s (n - i) p e)
+  pub run-none : {c : ℕ} (next : ℕ) → c ≡ 0 → ((t : ℕ) → stepsFrom s (c + t) p ≡ stepsFrom s c p ++ stepsFrom s t next) → readStep s next ≡ Bad → Ended
+  run-none {c} next z f e =
+      let x : n - i ≡ c + (n - i) = omega arith in
+      ended (ap (λ (t : ℕ). stepsFrom s t p) x ∙ (f (n - i) ∙ rw (steps-end s c p (omega arith), steps-bad s (n - i) next e)))
 
   pub run-end : n ≤ i → Ended
   run-end b = ended (steps-end s (n - i) p (omega arith))

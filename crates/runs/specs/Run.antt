@@ -9,7 +9,7 @@ use Rattle.machine.specs.Setup.{legal, freshWith, emptyMachine}
 use Rattle.machine.specs.declared.Machine.{Machine}
 use Rattle.machine.specs.declared.Setup.{Setup}
 use Rattle.rules.specs.declared.Step.{Step}
-pub use Rattle.rules.specs.Steps.{ran, answers}
+unfoldable pub use Rattle.rules.specs.Steps.{ran, answers}
 use Rattle.runs.specs.Book.{wellFormed, setupRead, stepsFrom, countOf, startOf}
 use Rattle.runs.specs.declared.Ran.{Ran}
 

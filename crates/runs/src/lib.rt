@@ -8,6 +8,7 @@ ghost use Rattle.machine.specs.Words.{pick};
 ghost use Rattle.runs.specs.Run.{refusedRun, runOf, bufferOf};
 ghost use Rattle.runs.specs.Drain.{drainOf};
 
+mod batch;
 mod book;
 mod heading;
 mod reader;

@@ -1,34 +1,16 @@
-// The steps of a book, run one after another, each answered at its own index.
+// The steps of a book, run one after another, each answered at its own index. They are taken by sixty-four.
 
 use super::Ran;
-use super::Read;
-use super::reader;
+use super::batch;
 use machine::Machine;
 use rules::Recorder;
 ghost use mathlib.Core.Path.{_≡_};
 ghost use mathlib.Core.Bool.{false};
-ghost use Prim.Native.Nat.{_≤_, _<_};
-ghost use lib.Dec.{eqb};
-ghost use lib.ListN.{length, set};
-ghost use Rattle.machine.specs.Words.{one};
+ghost use Prim.Native.Nat.{_≤_};
+ghost use lib.ListN.{length};
 ghost use Rattle.machine.specs.Broken.{brokenOf};
 ghost use Rattle.runs.specs.Book.{stepsFrom};
 ghost use Rattle.runs.specs.Run.{filled, fullRun};
-
-// What an answer adds to the count of steps taken.
-fn counted(answer: u8) -> u16
-    ensures { λ r. ⌜ r ≡ one (eqb answer 0) ⌝ }
-{
-    if answer == 0 { 1 } else { 0 }
-}
-
-// Writes an answer at its own index, and nothing else.
-fn put(answers: &mut [u8], i: u16, answer: u8)
-    requires { ⌜ i < length (now answers) ⌝ }
-    ensures { λ r. ⌜ now (answers .exit) ≡ set (now (answers .entry)) i answer ⌝ }
-{
-    answers[i as usize] = answer;
-}
 
 // A refused step doesn't stop the run.
 pub(crate) fn run_steps(s: &[u8], n: u16, from: usize, m: Machine, answers: &mut [u8]) -> Ran
@@ -40,25 +22,25 @@ pub(crate) fn run_steps(s: &[u8], n: u16, from: usize, m: Machine, answers: &mut
     let mut i: u16 = 0;
     let mut taken: u16 = 0;
     while i < n {
-        match reader::step_at(s, at) {
-            Read::Bad => {
-                return Ran {
-                    machine: m,
-                    answer: 0,
-                    steps: i,
-                    taken,
-                };
-            }
-            Read::Got(step, next) => {
-                let r = Recorder { machine: m }.step_unbroken(step);
-                put(answers, i, r.answer);
-                taken += counted(r.answer);
-                let after = r.machine;
-                m = after;
-                at = next;
-                i += 1;
-            }
+        let l = batch::reach(s, at, batch::wanted(n - i));
+        let count = l.count;
+        if count == 0 {
+            return Ran {
+                machine: m,
+                answer: 0,
+                steps: i,
+                taken,
+            };
         }
+        let steps = batch::load(s, at, count);
+        let r = Recorder { machine: m }.steps_unbroken(steps, count);
+        let given = r.answers;
+        batch::put(answers, i as usize, given, count);
+        taken += batch::taken(given, count);
+        let after = r.machine;
+        m = after;
+        at = l.next;
+        i += count as u16;
     }
     Ran {
         machine: m,

@@ -1,11 +1,10 @@
 -- The loop runs the steps that are left from here as the definition runs all from the start, and an unbroken machine stays so. The measure is what
 -- is left. Assumes nothing.
 use Prim.Native.Nat.{_-_}
-use mathlib.Core.Path.{sym, _∙_}
 use native.Mathlib.Omega.{arith}
-use lib.Dec.{eqb}
 use borrow.Author.Needs.{needs}
-use Rattle.runs.proofs.Running.{Running, one-low, run-start, run-step, run-bad, run-end}
+use Rattle.keeps.proofs.Keeps.{step-keeps}
+use Rattle.runs.proofs.Running.{Running, run-start, run-batch, run-none, run-end}
 use Rattle.runs.proofs.steps.run_steps.Statement.{statement}
 use Rattle.runs.proofs.steps.run_steps.Tie as tie
 
@@ -18,41 +17,50 @@ abbrev μ-loop : tie.MeasureT-loop
 loop-holds : tie.Need-loop-holds Inv-loop μ-loop
 loop-holds c = run-start (c .before .before .pre .1)
 
-step-at-requires : tie.Need-step-at-requires Inv-loop μ-loop
-step-at-requires c κs = search needs
+sub-wanted : tie.Need-sub-wanted Inv-loop μ-loop
+sub-wanted c = omega arith
 
-enum-told : tie.Need-enum-told Inv-loop μ-loop
-enum-told c = search needs
+wanted-requires : tie.Need-wanted-requires Inv-loop μ-loop
+wanted-requires c κs = search needs
+
+reach-requires : tie.Need-reach-requires Inv-loop μ-loop
+reach-requires c κs = search needs
 
 same-length : tie.Need-same-length Inv-loop μ-loop
 same-length c = c .before .before .before .before .loop .inv .long
 
 returns : tie.Need-returns Inv-loop μ-loop
-returns c = run-bad (c .before .before .before .before .loop .inv) (c .before .before .before .before .before .before .before .pre .0) (sym (c .before .before .step-at .ensures) ∙ c .enum-told .given .1)
+returns c = run-none (c .before .before .before .before .loop .inv) (c .before .before .before .before .before .before .before .pre .0) (c .before .reach .result .next) (c .if1 .taken) (c .before .reach .ensures .1 .1 .0) (c .before .reach .ensures .1 .1 .1 (omega (arith, c .if1 .taken, c .before .before .wanted .ensures .2 (omega (arith, c .before .before .before .loop-test .taken)))))
 
-enum-known-step : tie.Need-enum-known-step Inv-loop μ-loop
-enum-known-step c = search needs
+load-requires : tie.Need-load-requires Inv-loop μ-loop
+load-requires c κs = omega (arith, c .before .reach .ensures .0, c .before .before .wanted .ensures .1)
 
-step-unbroken-requires : tie.Need-step-unbroken-requires Inv-loop μ-loop
-step-unbroken-requires c κs = c .before .before .before .before .before .loop .inv .unbroken
+steps-unbroken-requires : tie.Need-steps-unbroken-requires Inv-loop μ-loop
+steps-unbroken-requires c κs = ((omega (arith, c .before .before .reach .ensures .0, c .before .before .before .wanted .ensures .1), c .before .before .before .before .before .loop .inv .unbroken), step-keeps)
+
+cast-put : tie.Need-cast-put Inv-loop μ-loop
+cast-put c = search needs
 
 put-requires : tie.Need-put-requires Inv-loop μ-loop
-put-requires c κs = omega (arith, c .before .before .before .before .before .before .before .loop .inv .long)
+put-requires c κs = (omega (arith, c .before .before .before .before .before .reach .ensures .0, c .before .before .before .before .before .before .wanted .ensures .1), omega (arith, c .before .before .before .before .before .reach .ensures .0, c .before .before .before .before .before .before .wanted .ensures .0, c .before .before .before .before .before .before .before .loop-test .taken, c .before .before .before .before .before .before .before .before .loop .inv .long, c .before .before .before .before .before .before .before .before .before .before .before .pre .0))
 
-counted-requires : tie.Need-counted-requires Inv-loop μ-loop
-counted-requires c κs = search needs
+taken-requires : tie.Need-taken-requires Inv-loop μ-loop
+taken-requires c κs = omega (arith, c .before .before .before .before .before .before .before .before .reach .ensures .0, c .before .before .before .before .before .before .before .before .before .wanted .ensures .1)
 
 add-taken : tie.Need-add-taken Inv-loop μ-loop
-add-taken c = omega (arith, one-low (eqb (c .before .before .before .before .before .step-unbroken .result .answer) 0))
+add-taken c = omega (arith, c .taken .ensures .1, c .before .before .before .before .before .before .before .before .before .reach .ensures .0, c .before .before .before .before .before .before .before .before .before .before .wanted .ensures .0, c .before .before .before .before .before .before .before .before .before .before .before .before .loop .inv .few, c .before .before .before .before .before .before .before .before .before .before .before .before .loop .inv .low)
+
+cast-i : tie.Need-cast-i Inv-loop μ-loop
+cast-i c = omega (arith, c .before .before .before .before .before .before .before .before .before .before .reach .ensures .0, c .before .before .before .before .before .before .before .before .before .before .before .wanted .ensures .1)
 
 add-i : tie.Need-add-i Inv-loop μ-loop
-add-i c = omega arith
+add-i c = omega (arith, c .before .before .before .before .before .before .before .before .before .before .reach .ensures .0, c .before .before .before .before .before .before .before .before .before .before .before .wanted .ensures .0, c .before .before .before .before .before .before .before .before .before .before .before .before .before .loop .inv .low)
 
 loop-less : tie.Need-loop-less Inv-loop μ-loop
-loop-less c = omega arith
+loop-less c = omega (arith, c .before .before .before .before .before .before .before .before .before .if1 .left, c .before .before .before .before .before .before .before .before .before .before .reach .ensures .0, c .before .before .before .before .before .before .before .before .before .before .before .wanted .ensures .0, c .before .before .before .before .before .before .before .before .before .before .before .before .loop-test .taken)
 
 loop-again : tie.Need-loop-again Inv-loop μ-loop
-loop-again c = run-step (c .before .before .before .before .before .before .before .before .before .before .before .before .loop .inv) (c .before .before .before .before .before .before .before .before .before .before .before .loop-test .taken) (sym (c .before .before .before .before .before .before .before .before .before .before .step-at .ensures) ∙ c .before .before .before .before .before .before .before .before .step .given .1) (c .before .before .before .before .before .before .step-unbroken .ensures) (c .before .before .before .before .put .ensures) (c .before .counted .ensures)
+loop-again c = run-batch (c .before .before .before .before .before .before .before .before .before .before .before .before .before .loop .inv) (c .before .before .before .before .before .before .before .before .load .result) (c .before .before .before .before .before .before .before .steps-unbroken .result .answers) (omega (arith, c .before .before .before .before .before .before .before .before .before .before .reach .ensures .0, c .before .before .before .before .before .before .before .before .before .before .before .wanted .ensures .0, c .before .before .before .before .before .before .before .before .before .before .before .before .before .loop .inv .low)) (c .before .before .before .before .before .before .before .before .before .before .reach .ensures .1 .0) (c .before .before .before .before .before .before .before .before .before .before .reach .ensures .1 .1 .0) (c .before .before .before .before .before .before .before .before .load .ensures) (c .before .before .before .before .before .before .before .steps-unbroken .ensures) (c .before .before .before .before .put .ensures) (c .before .taken .ensures)
 
 same-length-2 : tie.Need-same-length-2 Inv-loop μ-loop
 same-length-2 c = c .before .loop .inv .long
@@ -67,15 +75,18 @@ run-steps-spec =
     Inv-loop
     μ-loop
     loop-holds
-    step-at-requires
-    enum-told
+    sub-wanted
+    wanted-requires
+    reach-requires
     same-length
     returns
-    enum-known-step
-    step-unbroken-requires
+    load-requires
+    steps-unbroken-requires
+    cast-put
     put-requires
-    counted-requires
+    taken-requires
     add-taken
+    cast-i
     add-i
     loop-less
     loop-again
