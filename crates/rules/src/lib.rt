@@ -120,7 +120,7 @@ impl Recorder {
         self.rule(s)
     }
 
-    // The same step, not tested again: for the run and the drain, which know the machine to be unbroken.
+    // The same step, not tested again: for the drain, which knows the machine to be unbroken.
     pub fn step_unbroken(self, s: Step) -> Answered
         requires { ⌜ brokenOf (self .machine) ≡ false ⌝ }
         ensures { λ r. ⌜ r ≡ stepOf (self .machine) s ⌝ }

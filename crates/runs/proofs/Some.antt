@@ -109,14 +109,14 @@ put-start {a} {i} {given} {n} f =
     record { low = omega arith; sized = f; long = refl; same = rw e }
 
 module _ {a₀ : List ℕ} {i : ℕ} {given : List ℕ} {n : ℕ} {a : List ℕ} {j : ℕ} (h : Putting a₀ i given n a j) where
-  pub put-step : j < n → Putting a₀ i given n (set a (i + j) (getD given j 0)) (j + 1)
-  put-step b =
+  pub put-step : {b : List ℕ} → j < n → b ≡ set a (i + j) (getD given j 0) → Putting a₀ i given n b (j + 1)
+  put-step {b} l w =
       let e : i + (j + 1) ≡ suc (i + j) = omega arith in
       record {
         low = omega arith;
         sized = h .sized;
-        long = length-set a (i + j) (getD given j 0) ∙ h .long;
-        same = rw e (rw (left-is given n j (h .sized) b) at (h .same));
+        long = ap length w ∙ (length-set a (i + j) (getD given j 0) ∙ h .long);
+        same = rw (w, e) (rw (left-is given n j (h .sized) l) at (h .same));
       }
 
   pub put-end : n ≤ j → a ≡ sets a₀ i (take n given)

@@ -7,7 +7,7 @@ ghost use mathlib.Core.Path.{_≡_};
 ghost use mathlib.Core.List.{_++_};
 ghost use Prim.Native.Nat.{ℕ, _+_, _≤_, _<_};
 ghost use lib.Dec.{eqb};
-ghost use lib.ListN.{length, take};
+ghost use lib.ListN.{length, set, take};
 ghost use lib.Seq.{sets};
 ghost use Rattle.machine.specs.Words.{one, times};
 ghost use Rattle.runs.specs.Book.{readStep, stepsFrom};
@@ -76,14 +76,22 @@ pub(crate) fn load(s: &[u8], from: usize, n: usize) -> [Step; 64]
     steps
 }
 
-// Writes the first n answers from i on, and nothing else.
-pub(crate) fn put(answers: &mut [u8], i: usize, given: [u8; 64], n: usize)
+// Writes an answer at its own index, and nothing else.
+fn put(answers: &mut [u8], i: usize, answer: u8)
+    requires { ⌜ i < length (now answers) ⌝ }
+    ensures { λ r. ⌜ now (answers .exit) ≡ set (now (answers .entry)) i answer ⌝ }
+{
+    answers[i] = answer;
+}
+
+// Writes the first n answers from i on.
+pub(crate) fn put_all(answers: &mut [u8], i: usize, given: [u8; 64], n: usize)
     requires { ⌜ (n ≤ 64) × (i + n ≤ length (now answers)) ⌝ }
     ensures { λ r. ⌜ now (answers .exit) ≡ sets (now (answers .entry)) i (take n given) ⌝ }
 {
     let mut j: usize = 0;
     while j < n {
-        answers[i + j] = given[j];
+        put(answers, i + j, given[j]);
         j += 1;
     }
 }

@@ -35,7 +35,7 @@ pub(crate) fn run_steps(s: &[u8], n: u16, from: usize, m: Machine, answers: &mut
         let steps = batch::load(s, at, count);
         let r = Recorder { machine: m }.steps_unbroken(steps, count);
         let given = r.answers;
-        batch::put(answers, i as usize, given, count);
+        batch::put_all(answers, i as usize, given, count);
         taken += batch::taken(given, count);
         let after = r.machine;
         m = after;

@@ -38,11 +38,11 @@ load-requires c κs = omega (arith, c .before .reach .ensures .0, c .before .bef
 steps-unbroken-requires : tie.Need-steps-unbroken-requires Inv-loop μ-loop
 steps-unbroken-requires c κs = ((omega (arith, c .before .before .reach .ensures .0, c .before .before .before .wanted .ensures .1), c .before .before .before .before .before .loop .inv .unbroken), step-keeps)
 
-cast-put : tie.Need-cast-put Inv-loop μ-loop
-cast-put c = search needs
+cast-put-all : tie.Need-cast-put-all Inv-loop μ-loop
+cast-put-all c = search needs
 
-put-requires : tie.Need-put-requires Inv-loop μ-loop
-put-requires c κs = (omega (arith, c .before .before .before .before .before .reach .ensures .0, c .before .before .before .before .before .before .wanted .ensures .1), omega (arith, c .before .before .before .before .before .reach .ensures .0, c .before .before .before .before .before .before .wanted .ensures .0, c .before .before .before .before .before .before .before .loop-test .taken, c .before .before .before .before .before .before .before .before .loop .inv .long, c .before .before .before .before .before .before .before .before .before .before .before .pre .0))
+put-all-requires : tie.Need-put-all-requires Inv-loop μ-loop
+put-all-requires c κs = (omega (arith, c .before .before .before .before .before .reach .ensures .0, c .before .before .before .before .before .before .wanted .ensures .1), omega (arith, c .before .before .before .before .before .reach .ensures .0, c .before .before .before .before .before .before .wanted .ensures .0, c .before .before .before .before .before .before .before .loop-test .taken, c .before .before .before .before .before .before .before .before .loop .inv .long, c .before .before .before .before .before .before .before .before .before .before .before .pre .0))
 
 taken-requires : tie.Need-taken-requires Inv-loop μ-loop
 taken-requires c κs = omega (arith, c .before .before .before .before .before .before .before .before .reach .ensures .0, c .before .before .before .before .before .before .before .before .before .wanted .ensures .1)
@@ -60,7 +60,7 @@ loop-less : tie.Need-loop-less Inv-loop μ-loop
 loop-less c = omega (arith, c .before .before .before .before .before .before .before .before .before .if1 .left, c .before .before .before .before .before .before .before .before .before .before .reach .ensures .0, c .before .before .before .before .before .before .before .before .before .before .before .wanted .ensures .0, c .before .before .before .before .before .before .before .before .before .before .before .before .loop-test .taken)
 
 loop-again : tie.Need-loop-again Inv-loop μ-loop
-loop-again c = run-batch (c .before .before .before .before .before .before .before .before .before .before .before .before .before .loop .inv) (c .before .before .before .before .before .before .before .before .load .result) (c .before .before .before .before .before .before .before .steps-unbroken .result .answers) (omega (arith, c .before .before .before .before .before .before .before .before .before .before .reach .ensures .0, c .before .before .before .before .before .before .before .before .before .before .before .wanted .ensures .0, c .before .before .before .before .before .before .before .before .before .before .before .before .before .loop .inv .low)) (c .before .before .before .before .before .before .before .before .before .before .reach .ensures .1 .0) (c .before .before .before .before .before .before .before .before .before .before .reach .ensures .1 .1 .0) (c .before .before .before .before .before .before .before .before .load .ensures) (c .before .before .before .before .before .before .before .steps-unbroken .ensures) (c .before .before .before .before .put .ensures) (c .before .taken .ensures)
+loop-again c = run-batch (c .before .before .before .before .before .before .before .before .before .before .before .before .before .loop .inv) (c .before .before .before .before .before .before .before .before .load .result) (c .before .before .before .before .before .before .before .steps-unbroken .result .answers) (omega (arith, c .before .before .before .before .before .before .before .before .before .before .reach .ensures .0, c .before .before .before .before .before .before .before .before .before .before .before .wanted .ensures .0, c .before .before .before .before .before .before .before .before .before .before .before .before .before .loop .inv .low)) (c .before .before .before .before .before .before .before .before .before .before .reach .ensures .1 .0) (c .before .before .before .before .before .before .before .before .before .before .reach .ensures .1 .1 .0) (c .before .before .before .before .before .before .before .before .load .ensures) (c .before .before .before .before .before .before .before .steps-unbroken .ensures) (c .before .before .before .before .put-all .ensures) (c .before .taken .ensures)
 
 same-length-2 : tie.Need-same-length-2 Inv-loop μ-loop
 same-length-2 c = c .before .loop .inv .long
@@ -82,8 +82,8 @@ run-steps-spec =
     returns
     load-requires
     steps-unbroken-requires
-    cast-put
-    put-requires
+    cast-put-all
+    put-all-requires
     taken-requires
     add-taken
     cast-i
