@@ -4,6 +4,7 @@ ghost use mathlib.Core.Path.{_≡_};
 ghost use Rattle.machine.specs.Bounds.{Bounds};
 ghost use Rattle.machine.specs.Broken.{brokenOf};
 ghost use Rattle.rules.specs.Step.{ruleOf, stepOf};
+use about::about_of;
 use machine::Answered;
 use machine::Machine;
 
@@ -117,7 +118,7 @@ impl Recorder {
                 answer: 1,
             };
         }
-        self.rule(s)
+        self.step_unbroken(s)
     }
 
     // The same step, not tested again: for the drain, which knows the machine to be unbroken.
@@ -125,7 +126,12 @@ impl Recorder {
         requires { ⌜ brokenOf (self .machine) ≡ false ⌝ }
         ensures { λ r. ⌜ r ≡ stepOf (self .machine) s ⌝ }
     {
-        self.rule(s)
+        let b = about_of(s);
+        if b.back {
+            return self.rule(s);
+        }
+        // At once, as a call on the way would copy the machine in and out.
+        self.touch(s)
     }
 
     // The rule alone, for a machine that is not broken.
