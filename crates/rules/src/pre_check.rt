@@ -1,9 +1,10 @@
 // Step 3, pre-check: actor.
 ghost use Prim.Native.Nat.{_<_};
+ghost use mathlib.Core.Bool.{_&&_};
 ghost use mathlib.Core.Path.{_≡_};
 ghost use Rattle.machine.specs.Bounds.{Bounds};
 ghost use Rattle.machine.specs.Setup.{emptyMachine};
-ghost use Rattle.machine.specs.Words.{table};
+ghost use Rattle.machine.specs.Words.{bit, pick, table};
 ghost use Rattle.machine.specs.Writes.{withViews};
 ghost use Rattle.rules.specs.PreCheck.{checkedLink, preCheckNo, preChecked};
 ghost use Rattle.rules.specs.Rule.{decided};
@@ -43,28 +44,28 @@ impl Recorder {
 }
 
 // The link of j: the store of that receipt, if j is a cause and the receipt's changed flag is set.
-// The contract's machine has these views; nothing else of it is looked at.
-fn checked_link(views: [View; 32], w: View, j: usize) -> u8
+fn checked_link(receipt: View, causes: u16, link: u8, j: usize) -> u8
     requires { ⌜ j < 16 ⌝ }
-    ensures { λ r. ⌜ r ≡ checkedLink (withViews emptyMachine views) w j ⌝ }
+    ensures { λ r. ⌜ r ≡ pick (bit causes j && receipt .changed) (receipt .store) link ⌝ }
 {
-    if (w.causes >> j) % 2 != 1 {
-        return w.links[j];
+    if (causes >> j) % 2 != 1 {
+        return link;
     }
-    let receipt = views[j * 2 + 1];
     if receipt.changed {
         return receipt.store;
     }
-    w.links[j]
+    link
 }
 
+// The contract's machine has these views; nothing else of it is looked at.
 fn checked_links(views: [View; 32], w: View) -> [u8; 16]
     ensures { λ r. ⌜ r ≡ table (checkedLink (withViews emptyMachine views) w) 16 ⌝ }
 {
     let mut links = [0u8; 16];
     let mut j: usize = 0;
     while j < 16 {
-        let link = checked_link(views, w, j);
+        let receipt = views[j * 2 + 1];
+        let link = checked_link(receipt, w.causes, w.links[j], j);
         links[j] = link;
         j += 1;
     }

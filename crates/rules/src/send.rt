@@ -1,12 +1,14 @@
 // Step 1, send: from, to, own store, data, causes.
 ghost use Prim.Native.Nat.{_<_};
+ghost use lib.Dec.{eqb, ltb};
+ghost use mathlib.Core.Bool.{_&&_, _||_, not};
 ghost use mathlib.Core.Path.{_≡_};
 ghost use Rattle.machine.specs.Bounds.{Bounds};
 ghost use Rattle.machine.specs.Setup.{answered, emptyMachine};
-ghost use Rattle.machine.specs.Words.{table};
+ghost use Rattle.machine.specs.Words.{bit, table};
 ghost use Rattle.machine.specs.Writes.{withMade, withViews};
 ghost use Rattle.rules.specs.Rule.{decided};
-ghost use Rattle.rules.specs.Send.{awaitedView, causeKnown, causesKnown, homeLink, joined, sendNo, sent};
+ghost use Rattle.rules.specs.Send.{awaitedView, causesKnown, homeLink, joined, sendNo, sent};
 use crate::Recorder;
 use machine::Answered;
 use machine::Message;
@@ -101,11 +103,10 @@ pub(crate) fn awaited_view(to: u8) -> View
     }
 }
 
-// Whether j, if it is a cause, is an interaction that the actor has received.
-// The contract's machine has these views and this number made; nothing else of it is looked at.
-fn cause_known(views: [View; 32], made: u8, actor: u8, causes: u16, j: usize) -> bool
+// Whether j, if it is a cause, is an interaction that the actor has received; w is its receiver's record.
+fn cause_known(w: View, made: u8, actor: u8, causes: u16, j: usize) -> bool
     requires { ⌜ j < 16 ⌝ }
-    ensures { λ r. ⌜ r ≡ causeKnown (withMade (withViews emptyMachine views) made) actor causes j ⌝ }
+    ensures { λ r. ⌜ r ≡ (not (bit causes j) || ltb j made && not (eqb (w .phase) 0) && eqb (w .actor) actor) ⌝ }
 {
     if (causes >> j) % 2 != 1 {
         return true;
@@ -113,19 +114,20 @@ fn cause_known(views: [View; 32], made: u8, actor: u8, causes: u16, j: usize) ->
     if made as usize <= j {
         return false;
     }
-    let w = views[j * 2 + 1];
     if w.phase == 0 {
         return false;
     }
     w.actor == actor
 }
 
+// The contract's machine has these views and this number made; nothing else of it is looked at.
 fn causes_known(views: [View; 32], made: u8, actor: u8, causes: u16) -> bool
     ensures { λ r. ⌜ r ≡ causesKnown (withMade (withViews emptyMachine views) made) actor causes ⌝ }
 {
     let mut j: usize = 0;
     while j < 16 {
-        if !cause_known(views, made, actor, causes, j) {
+        let w = views[j * 2 + 1];
+        if !cause_known(w, made, actor, causes, j) {
             return false;
         }
         j += 1;

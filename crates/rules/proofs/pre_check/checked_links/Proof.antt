@@ -2,6 +2,7 @@
 use Prim.Native.Nat.{_-_}
 use mathlib.Core.Path.{refl}
 use native.Mathlib.Omega.{arith}
+use borrow.Author.Needs.{needs}
 use Rattle.machine.specs.Setup.{emptyMachine}
 use Rattle.machine.specs.Writes.{withViews}
 use Rattle.rules.specs.PreCheck.{checkedLink}
@@ -18,6 +19,21 @@ abbrev μ-loop : tie.MeasureT-loop
 loop-holds : tie.Need-loop-holds Inv-loop μ-loop
 loop-holds c = fill-start _ _ _ refl
 
+mul-receipt : tie.Need-mul-receipt Inv-loop μ-loop
+mul-receipt c = search needs
+
+add-receipt : tie.Need-add-receipt Inv-loop μ-loop
+add-receipt c = search needs
+
+mul-receipt-2 : tie.Need-mul-receipt-2 Inv-loop μ-loop
+mul-receipt-2 c = search needs
+
+array-copy-out-receipt : tie.Need-array-copy-out-receipt Inv-loop μ-loop
+array-copy-out-receipt c = search needs
+
+element-copy-out-checked-link : tie.Need-element-copy-out-checked-link Inv-loop μ-loop
+element-copy-out-checked-link c = search needs
+
 checked-link-requires : tie.Need-checked-link-requires Inv-loop μ-loop
 checked-link-requires c κs = omega arith
 
@@ -31,7 +47,7 @@ loop-less : tie.Need-loop-less Inv-loop μ-loop
 loop-less c = omega arith
 
 loop-again : tie.Need-loop-again Inv-loop μ-loop
-loop-again c = fill-step (c .before .before .loop .inv) (c .before .loop-test .taken) (c .checked-link .ensures)
+loop-again c = fill-step (c .before .before .before .before .loop .inv) (c .before .before .before .loop-test .taken) (c .checked-link .ensures)
 
 returns : tie.Need-returns Inv-loop μ-loop
 returns c = fill-end (c .before .loop .inv) (c .loop-test .left)
@@ -43,6 +59,11 @@ checked-links-spec =
     Inv-loop
     μ-loop
     loop-holds
+    mul-receipt
+    add-receipt
+    mul-receipt-2
+    array-copy-out-receipt
+    element-copy-out-checked-link
     checked-link-requires
     array-write-links
     add-j

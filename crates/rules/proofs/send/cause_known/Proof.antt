@@ -16,18 +16,6 @@ returns c = search tests
 returns-2 : tie.Need-returns-2
 returns-2 c = search tests
 
-mul-w : tie.Need-mul-w
-mul-w c = search needs
-
-add-w : tie.Need-add-w
-add-w c = search needs
-
-mul-w-2 : tie.Need-mul-w-2
-mul-w-2 c = search needs
-
-array-copy-out-w : tie.Need-array-copy-out-w
-array-copy-out-w c = search needs
-
 returns-3 : tie.Need-returns-3
 returns-3 c = search tests
 
@@ -35,16 +23,4 @@ returns-4 : tie.Need-returns-4
 returns-4 c = search tests
 
 pub cause-known-spec : {M : Type 1} → statement M
-cause-known-spec =
-    tie.close
-    (tie.spec
-    cast-if1
-    shr-if1
-    returns
-    returns-2
-    mul-w
-    add-w
-    mul-w-2
-    array-copy-out-w
-    returns-3
-    returns-4)
+cause-known-spec = tie.close (tie.spec cast-if1 shr-if1 returns returns-2 returns-3 returns-4)

@@ -2,6 +2,7 @@
 use Prim.Native.Nat.{_-_}
 use mathlib.Core.Path.{_∙_, sym}
 use native.Mathlib.Omega.{arith}
+use borrow.Author.Needs.{needs}
 use borrow.Author.Tests.{not-false, not-true}
 use Rattle.machine.specs.Setup.{emptyMachine}
 use Rattle.machine.specs.Writes.{withMade, withViews}
@@ -11,13 +12,25 @@ use Rattle.rules.proofs.send.causes_known.Statement.{statement}
 use Rattle.rules.proofs.send.causes_known.Tie as tie
 
 abbrev Inv-loop : tie.InvT-loop
-Inv-loop views made actor causes j₀ j = Passed (causeKnown (withMade (withViews emptyMachine views) made) actor causes) 16 j
+Inv-loop made actor causes views j₀ j = Passed (causeKnown (withMade (withViews emptyMachine views) made) actor causes) 16 j
 
 abbrev μ-loop : tie.MeasureT-loop
-μ-loop views made actor causes j₀ j = 16 - j
+μ-loop made actor causes views j₀ j = 16 - j
 
 loop-holds : tie.Need-loop-holds Inv-loop μ-loop
 loop-holds c = pass-start _ _
+
+mul-w : tie.Need-mul-w Inv-loop μ-loop
+mul-w c = search needs
+
+add-w : tie.Need-add-w Inv-loop μ-loop
+add-w c = search needs
+
+mul-w-2 : tie.Need-mul-w-2 Inv-loop μ-loop
+mul-w-2 c = search needs
+
+array-copy-out-w : tie.Need-array-copy-out-w Inv-loop μ-loop
+array-copy-out-w c = search needs
 
 cause-known-requires : tie.Need-cause-known-requires Inv-loop μ-loop
 cause-known-requires c κs = omega arith
@@ -25,7 +38,7 @@ cause-known-requires c κs = omega arith
 returns : tie.Need-returns Inv-loop μ-loop
 unfolding causesKnown
 returns c =
-    pass-stop (c .before .before .before .loop .inv) (c .before .before .loop-test .taken) (sym (c .before .cause-known .ensures) ∙ not-true _ (c .if1 .taken))
+    pass-stop (c .before .before .before .before .loop .inv) (c .before .before .before .loop-test .taken) (sym (c .before .cause-known .ensures) ∙ not-true _ (c .if1 .taken))
 
 add-j : tie.Need-add-j Inv-loop μ-loop
 add-j c = omega arith
@@ -35,7 +48,7 @@ loop-less c = omega arith
 
 loop-again : tie.Need-loop-again Inv-loop μ-loop
 loop-again c =
-    pass-step (c .before .before .before .loop .inv) (c .before .before .loop-test .taken) (sym (c .before .cause-known .ensures) ∙ not-false _ (c .if1 .left))
+    pass-step (c .before .before .before .before .loop .inv) (c .before .before .before .loop-test .taken) (sym (c .before .cause-known .ensures) ∙ not-false _ (c .if1 .left))
 
 returns-2 : tie.Need-returns-2 Inv-loop μ-loop
 unfolding causesKnown
@@ -48,6 +61,10 @@ causes-known-spec =
     Inv-loop
     μ-loop
     loop-holds
+    mul-w
+    add-w
+    mul-w-2
+    array-copy-out-w
     cause-known-requires
     returns
     add-j
