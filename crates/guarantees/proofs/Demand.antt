@@ -19,6 +19,7 @@ use Rattle.keeps.proofs.Onward.{step-onward, closed-stays}
 use Rattle.rules.specs.Step.{stepOf}
 use Rattle.rules.specs.declared.Step.{Step}
 use Rattle.runs.specs.Run.{ran, freshOf}
+use Rattle.runs.proofs.Some.{ran-append}
 use Rattle.guarantees.specs.Acknowledged.{Legal, after, accepted, acknowledged, AckedBy}
 use Rattle.guarantees.specs.Guarantees.{OneAcknowledgement, Holds, KeptForEver, CauseLinks, StaysClosed, ViewLinks}
 use Rattle.guarantees.proofs.Whole.{Everywhere, Here}
@@ -49,11 +50,6 @@ fresh-phase u l v = go (ℕ-discrete (view (freshOf u) v .phase) 0)
     go : Dec (view (freshOf u) v .phase ≡ 0) → view (freshOf u) v .phase ≡ 0
     go (yes e) = e
     go (no n) = absurd (omega (arith, view-made (freshOf u) (unbroken (freshOf u) (fresh-reached u l .fine)) v (omega arith)))
-
-pub ran-append : (m : Machine) (ss ts : List Step) → ran m (ss ++ ts) ≡ ran (ran m ss) ts
-unfolding ran
-ran-append m [] ts = refl
-ran-append m (s ∷ ss) ts = ran-append (stepOf m s .machine) ss ts
 
 same-head : (a b : ℕ) → _≡_ {A = List ℕ} (a ∷ []) (b ∷ []) → a ≡ b
 same-head a b e = cc

@@ -22,7 +22,8 @@ use Rattle.drains.proofs.Courses.{drain-ends}
 use Rattle.guarantees.specs.Acknowledged.{Legal, after}
 use Rattle.guarantees.specs.Guarantees.{TheDrain, BookRun, Books, EveryCall}
 use Rattle.guarantees.proofs.Heads.{pick-zero}
-use Rattle.guarantees.proofs.Demand.{reached, ran-append}
+use Rattle.guarantees.proofs.Demand.{reached}
+use Rattle.runs.proofs.Some.{ran-append}
 
 pub ends : (u : Setup) → Legal u → (steps : List Step) → allUp (after u steps) ≡ true → Ends (after u steps)
 ends u l steps up = drain-ends (after u steps) (record { unbroken = reached u l steps .fine; up = up })

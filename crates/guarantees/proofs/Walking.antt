@@ -41,7 +41,8 @@ use Rattle.guarantees.proofs.Heads.{stores8, absurd-eq}
 use Rattle.guarantees.proofs.Causes.{Cause, turn-causes}
 use Rattle.guarantees.proofs.Reached.{Reached, Causes, new-sender}
 use Rattle.guarantees.proofs.Steps.{Move, turns-to, unmade, moves, step-reached}
-use Rattle.guarantees.proofs.Demand.{fresh-reached, reached, ran-append}
+use Rattle.guarantees.proofs.Demand.{fresh-reached, reached}
+use Rattle.runs.proofs.Some.{ran-append}
 use Rattle.guarantees.proofs.Drained.{the-drain}
 use Rattle.guarantees.proofs.Closing.{Rests, closed-of, accurate}
 

@@ -6,14 +6,15 @@ use mathlib.Core.Bool.{Bool, true, false}
 use native.Mathlib.Omega.{arith}
 use Rattle.machine.specs.Words.{pick}
 use Rattle.machine.specs.Bounds.{Bounds}
-use Rattle.machine.specs.Setup.{answered}
+use Rattle.machine.specs.Setup.{answered, emptyMachine}
+use Rattle.machine.specs.Writes.{withMade, withViews}
 use Rattle.machine.specs.Slots.{number, queue, view, entry}
 use Rattle.machine.specs.declared.Machine.{Machine}
-use Rattle.rules.specs.About.{aboutOf, storeOf, viewAbout, actorAbout, storeAbout, outsideOf}
+use Rattle.rules.specs.About.{aboutOf, nextView, storeOf, viewAbout, actorAbout, storeAbout, outsideOf}
 use Rattle.rules.specs.Rule.{head}
-use Rattle.rules.specs.Slots.{Stands, Fits, slotsAt, withSlotsAt, slotsOf, withSlots, outcome}
+use Rattle.rules.specs.Slots.{Stands, Fits, noPast, pastOf, pastAbout, slotsAt, withSlotsAt, slotsOf, withSlots, outcome}
 use Rattle.rules.specs.Step.{ruleOf}
-use Rattle.rules.specs.Send.{sendNo}
+use Rattle.rules.specs.Send.{causesKnown, sendNo}
 use Rattle.rules.specs.Receive.{receiveNo}
 use Rattle.rules.specs.PreCheck.{preCheckNo}
 use Rattle.rules.specs.SendRecord.{sendRecordNo}
@@ -30,6 +31,7 @@ use Rattle.rules.specs.Lose.{loseNo}
 use Rattle.rules.specs.Crash.{crashNo}
 use Rattle.rules.specs.Restart.{restartNo}
 use Rattle.rules.specs.declared.about.About.{About}
+use Rattle.rules.specs.declared.past.Past.{Past}
 use Rattle.rules.specs.declared.slots.Slots.{Slots}
 use Rattle.rules.specs.declared.slots.Tried.{Tried}
 use Rattle.rules.specs.declared.Step.{Step}
@@ -55,12 +57,22 @@ outside-refuses m (Lose what p k r) e = simp e
 outside-refuses m (Crash p) e = simp e
 outside-refuses m (Restart p) e = simp e
 
--- how the code finds them, one after another
-pub record Found (m : Machine) (s : Step) (b : About) (a v p : ℕ) : Type 0 where
+-- what a step looks back at, where it does and where it doesn't
+module _ (m : Machine) (b : About) (v : ℕ) {past : Past} where
+  pub looked-back : b .back ≡ true → past ≡ pastOf (withMade (withViews emptyMachine (m .views)) (m .made)) (b .actor) (b .causes) (view m v) → past ≡ pastAbout m b v
+  unfolding causesKnown
+  looked-back e same = same ∙ sym (ap (λ (t : Bool). pick t (pastOf m (b .actor) (b .causes) (view m v)) noPast) e)
+
+  pub not-looked : b .back ≡ false → past ≡ noPast → past ≡ pastAbout m b v
+  not-looked e same = same ∙ sym (ap (λ (t : Bool). pick t (pastOf m (b .actor) (b .causes) (view m v)) noPast) e)
+
+-- how the code finds them, one after another, and what it looks back at
+pub record Found (m : Machine) (s : Step) (b : About) (a v p : ℕ) (past : Past) : Type 0 where
   pub about : b ≡ aboutOf s
   pub viewed : v ≡ viewAbout m b
   pub acted : a ≡ pick (b .acting) (b .actor) (view m v .actor)
   pub stored : p ≡ storeOf (b .whose) (b .store) (view m v .store) (entry m v .destination)
+  pub looked : past ≡ pastAbout m b v
 
 -- a view that is not yet received has room in its actor's queue
 room-of : (m : Machine) → Bounds m → (v a : ℕ) → v % 2 ≡ 1 → v / 2 < m .made → a ≡ view m v .actor → view m v .phase ≡ 0 → queue m a .len < 16
@@ -68,7 +80,7 @@ room-of m low v a odd made same zero =
     let n : number (v / 2) 1 ≡ v = omega (arith, odd) in
     rw same (rw n at (low .receiveRoom (v / 2) made (rw n zero)))
 
-module _ {m : Machine} {s : Step} {b : About} {a v p : ℕ} (f : Found m s b a v p) where
+module _ {m : Machine} {s : Step} {b : About} {a v p : ℕ} {past : Past} (f : Found m s b a v p past) where
   view-is : v ≡ viewAbout m (aboutOf s)
   view-is = f .viewed ∙ ap (viewAbout m) (f .about)
 
@@ -79,14 +91,17 @@ module _ {m : Machine} {s : Step} {b : About} {a v p : ℕ} (f : Found m s b a v
   store-is =
       f .stored ∙ (ap (λ (u : ℕ). storeOf (b .whose) (b .store) (view m u .store) (entry m u .destination)) (f .viewed) ∙ ap (storeAbout m) (f .about))
 
-  pub stands : outsideOf (m .stores) (m .actors) (m .made) s ≡ false → Stands m s (slotsAt m a v p)
-  stands e = record { inside = e; slots = λ i. slotsAt m (actor-is i) (view-is i) (store-is i) }
+  past-is : past ≡ pastAbout m (aboutOf s) (viewAbout m (aboutOf s))
+  past-is = f .looked ∙ (λ i. pastAbout m (f .about i) (view-is i))
+
+  pub stands : outsideOf (m .stores) (m .actors) (m .made) s ≡ false → Stands m s (slotsAt m b a v p past)
+  stands e = record { inside = e; slots = λ i. slotsAt m (f .about i) (actor-is i) (view-is i) (store-is i) (past-is i) }
 
   -- what the rule gives is what is written there
-  pub written : (t : Tried) → ruleOf m s ≡ outcome m s t → answered (t .answer) (withSlotsAt m a v p (t .slots)) ≡ ruleOf m s
-  written t e = ap (answered (t .answer)) (λ i. withSlotsAt m (actor-is i) (view-is i) (store-is i) (t .slots)) ∙ sym e
+  pub written : (t : Tried) → ruleOf m s ≡ outcome m s t → answered (t .answer) (withSlotsAt m b a v p (t .slots)) ≡ ruleOf m s
+  written t e = ap (answered (t .answer)) (λ i. withSlotsAt m (f .about i) (actor-is i) (view-is i) (store-is i) (t .slots)) ∙ sym e
 
-  pub fits : Bounds m → outsideOf (m .stores) (m .actors) (m .made) s ≡ false → v < 32 → a < 8 → p < 8 → Fits (aboutOf s) (slotsAt m a v p)
+  pub fits : Bounds m → outsideOf (m .stores) (m .actors) (m .made) s ≡ false → v < 32 → a < 8 → p < 8 → Fits (aboutOf s) (slotsAt m b a v p past)
   fits low e v-low a-low p-low =
       record {
         number32 = v-low;
@@ -97,7 +112,8 @@ module _ {m : Machine} {s : Step} {b : About} {a v p : ℕ} (f : Found m s b a v
         room = λ unnamed odd.
             room-of m low v a odd (rw (← named-is unnamed) at (key-low m low s e unnamed (rw (← named-is unnamed) odd)))
             (f .acted ∙ ap (λ (t : Bool). pick t (b .actor) (view m v .actor)) (ap (λ (c : About). c .acting) (f .about) ∙ unnamed));
+        sendRoom = λ making made. low .sendRoom a a-low made;
       }
     where
       named-is : aboutOf s .acting ≡ false → v ≡ aboutOf s .view
-      named-is unnamed = view-is ∙ ap (λ (t : Bool). pick t (head m (aboutOf s .actor)) (aboutOf s .view)) unnamed
+      named-is unnamed = view-is ∙ ap (λ (t : Bool). pick t (pick (aboutOf s .making) (nextView (m .made)) (head m (aboutOf s .actor))) (aboutOf s .view)) unnamed

@@ -98,7 +98,7 @@ module _ (m : Machine) (low : Bounds m) where
   view-about-low (Restart p) e = omega arith
 
   pub store-low : (s : Step) → outsideOf (m .stores) (m .actors) (m .made) s ≡ false → aboutOf s .store < 8
-  store-low (Send from to own word causes) e = omega arith
+  store-low (Send from to own word causes) e = below own (m .stores) 8 (low .stores8) (last-inside (outside from (m .actors) || outside to (m .actors)) (outside own (m .stores)) e)
   store-low (Receive k) e = omega arith
   store-low (PreCheck a) e = omega arith
   store-low (SendRecord a) e = omega arith
@@ -114,6 +114,24 @@ module _ (m : Machine) (low : Bounds m) where
   store-low (Lose what p k r) e = placed-store p k r (loss-place what p k r e)
   store-low (Crash p) e = below p (m .stores) 8 (low .stores8) e
   store-low (Restart p) e = below p (m .stores) 8 (low .stores8) e
+
+  pub other-low : (s : Step) → outsideOf (m .stores) (m .actors) (m .made) s ≡ false → aboutOf s .other < 8
+  other-low (Send from to own word causes) e = below to (m .actors) 8 (low .actors8) (last-inside (outside from (m .actors)) (outside to (m .actors)) (first-inside (outside from (m .actors) || outside to (m .actors)) (outside own (m .stores)) e))
+  other-low (Receive k) e = omega arith
+  other-low (PreCheck a) e = omega arith
+  other-low (SendRecord a) e = omega arith
+  other-low (Timeout a p) e = omega arith
+  other-low (TakeRecord p k r) e = omega arith
+  other-low (TakeAck p k r) e = omega arith
+  other-low (PostCheck a) e = omega arith
+  other-low (TakeRepair k r) e = omega arith
+  other-low (SendUpdate k r) e = omega arith
+  other-low (TakeUpdate p k r) e = omega arith
+  other-low (TakeUack p k r) e = omega arith
+  other-low (Expire k r) e = omega arith
+  other-low (Lose what p k r) e = omega arith
+  other-low (Crash p) e = omega arith
+  other-low (Restart p) e = omega arith
 
   -- a receiver's view that is named is of an interaction that is made
   pub key-low : (s : Step) → outsideOf (m .stores) (m .actors) (m .made) s ≡ false → aboutOf s .acting ≡ false → aboutOf s .view % 2 ≡ 1 → aboutOf s .view / 2 < m .made

@@ -1,7 +1,7 @@
 -- What stands in the slots that a step is about tells what its rule gives: a refused rule writes back what stood there,
 -- and so changes nothing. Assumes nothing.
 use Prim.Native.Nat.{ℕ, _+_, _*_, _-_, _/_, _%_, _<_}
-use mathlib.Core.Path.{_≡_, _∙_, sym, ap}
+use mathlib.Core.Path.{_≡_, _∙_, refl, sym, ap}
 use mathlib.Core.Bool.{Bool, true, false, _||_, true≢false}
 use lib.Dec.{eqb}
 use mathlib.Core.List.{List}
@@ -21,9 +21,13 @@ use Rattle.rules.specs.Step.{ruleOf, numberOf, afterOf}
 use Rattle.rules.specs.declared.Step.{Step}
 use Rattle.rules.specs.declared.slots.Slots.{Slots}
 
+pick-same : {A : Type 0} (b : Bool) (x : A) → pick b x x ≡ x
+pick-same true x = refl
+pick-same false x = refl
+
 -- what is written back as it stood changes nothing
 pub unchanged : {m : Machine} {s : Step} {x : Slots} → Stands m s x → withSlots m (aboutOf s) x ≡ m
-unchanged {m} {s} {x} h = ap (withSlots m (aboutOf s)) (h .slots) ∙ simp set-getD
+unchanged {m} {s} {x} h = ap (withSlots m (aboutOf s)) (h .slots) ∙ simp (set-getD, pick-same)
 
 pub refuses : {m : Machine} {s : Step} {x : Slots} (h : Stands m s x) (n : ℕ) → eqb n 0 ≡ false → numberOf m s ≡ n → ruleOf m s ≡ answered n (withSlots m (aboutOf s) x)
 unfolding ruleOf
@@ -47,6 +51,10 @@ beside l i j x d other = sym (ap (set (set l i x) j) (getD-set-other l i j x d o
 
 pub beside-view : {A : Type 0} (l : List A) (v : ℕ) (x d : A) → set (set l v x) (opposite v) (getD l (opposite v) d) ≡ set l v x
 beside-view l v x d = beside l v (opposite v) x d (λ e. omega (arith, e))
+
+pub beside-key : {A : Type 0} (l : List A) (k r : ℕ) → r < 2 → (x d : A)
+    → set (set l (number k r) x) (number k (1 - r)) (getD l (number k (1 - r)) d) ≡ set l (number k r) x
+beside-key l k r low x d = beside l (number k r) (number k (1 - r)) x d (λ e. omega (arith, e))
 
 pub beside-place : {A : Type 0} (l : List A) (p k r : ℕ) → r < 2 → (x d : A)
     → set (set l (place p (number k r)) x) (place p (number k (1 - r))) (getD l (place p (number k (1 - r))) d) ≡ set l (place p (number k r)) x

@@ -7,14 +7,15 @@ use mathlib.Core.List.{List, [], _∷_, _++_, append-nil}
 use native.Mathlib.Numerals.{add-one}
 use native.Mathlib.Omega.{arith}
 use native.Mathlib.Nat.{le-antisymm}
-use lib.ListN.{length, take, drop, getD, set, length-set}
-use lib.Seq.{take-suc-set, drop-cons, getD-take, length-take-le, drop-length, append-snoc}
+use lib.ListN.{length, take, drop, replicate, getD, set, length-set, take-append-drop}
+use lib.Seq.{take-suc-set, drop-set-lt, drop-drop, drop-cons, getD-take, length-take-le, drop-length, append-snoc}
 use Rattle.machine.specs.Broken.{brokenOf}
 use Rattle.machine.specs.declared.Machine.{Machine}
 use Rattle.machine.specs.declared.Answered.{Answered}
 use Rattle.rules.specs.Step.{ruleOf, stepOf}
-use Rattle.rules.specs.Steps.{ran, answers}
+use Rattle.rules.specs.Steps.{ran, answers, manyOf}
 use Rattle.rules.specs.declared.Step.{Step}
+use Rattle.rules.specs.declared.steps.Many.{Many}
 use Rattle.rules.proofs.Unbroken.{ruled}
 
 pub record Taking (steps : List Step) (n : ℕ) (m₀ m : Machine) (written : List ℕ) (i : ℕ) : Type 0 where
@@ -25,9 +26,10 @@ pub record Taking (steps : List Step) (n : ℕ) (m₀ m : Machine) (written : Li
   pub unbroken : brokenOf m ≡ false
   pub machine : ran m (drop i (take n steps)) ≡ ran m₀ (take n steps)
   pub numbers : take i written ++ answers m (drop i (take n steps)) ≡ answers m₀ (take n steps)
+  pub behind : drop i written ≡ drop i (replicate 64 0)
 
-pub take-start : {steps : List Step} {n : ℕ} {m : Machine} {written : List ℕ} → n ≤ 64 → length steps ≡ 64 → length written ≡ 64 → brokenOf m ≡ false → Taking steps n m m written 0
-take-start f k l e = record { low = omega arith; few = f; sized = k; long = l; unbroken = e; machine = refl; numbers = refl }
+pub take-start : {steps : List Step} {n : ℕ} {m : Machine} → n ≤ 64 → length steps ≡ 64 → brokenOf m ≡ false → Taking steps n m m (replicate 64 0) 0
+take-start f k e = record { low = omega arith; few = f; sized = k; long = refl; unbroken = e; machine = refl; numbers = refl; behind = refl }
 
 abbrev pub Keeping : Type 0
 Keeping = (m : Machine) (s : Step) → brokenOf m ≡ false → brokenOf (stepOf m s .machine) ≡ false
@@ -60,11 +62,16 @@ module _ {steps : List Step} {n : ℕ} {m₀ m : Machine} {written : List ℕ} {
         unbroken = rw q (keeps m s (h .unbroken));
         machine = rw q (rw f at (h .machine));
         numbers = rw (x, q) (append-snoc (take i written) (stepOf m s .answer) rest ∙ rw f at (h .numbers));
+        behind = drop-set-lt (i + 1) written i (r .answer) (omega arith) ∙ (sym (drop-drop 1 i written) ∙ (ap (drop 1) (h .behind) ∙ drop-drop 1 i (replicate 64 0)));
       }
 
-  pub take-end : n ≤ i → (m ≡ ran m₀ (take n steps)) × (take n written ≡ answers m₀ (take n steps))
+  pub take-end : n ≤ i → record { machine = m; answers = written } ≡ manyOf m₀ steps n
   unfolding ran answers
   take-end b =
       let q : i ≡ n = le-antisymm (h .low) b in
       let f : drop i (take n steps) ≡ [] = ap (λ (k : ℕ). drop k (take n steps)) (q ∙ sym (length-take-le n steps fits)) ∙ drop-length (take n steps) in
-      (rw f at (h .machine), ap (λ (k : ℕ). take k written) (sym q) ∙ (sym (append-nil (take i written)) ∙ rw f at (h .numbers)))
+      let x : m ≡ ran m₀ (take n steps) = rw f at (h .machine) in
+      let y : take n written ≡ answers m₀ (take n steps) = ap (λ (k : ℕ). take k written) (sym q) ∙ (sym (append-nil (take i written)) ∙ rw f at (h .numbers)) in
+      let z : drop n written ≡ drop n (replicate 64 0) = rw q at (h .behind) in
+      let w : written ≡ answers m₀ (take n steps) ++ drop n (replicate 64 0) = sym (take-append-drop n written) ∙ (λ i. y i ++ z i) in
+      λ i. record { machine = x i; answers = w i }

@@ -1,7 +1,7 @@
 -- What a step is about: one actor, one view and one store. It names some of them; the machine tells the others.
 use Prim.Native.Nat.{ℕ}
 use mathlib.Core.Bool.{Bool, true, false, _||_}
-use lib.Dec.{eqb}
+use lib.Dec.{eqb, ltb}
 use Rattle.machine.specs.Words.{pick}
 use Rattle.machine.specs.Slots.{number, view, entry}
 use Rattle.machine.specs.declared.Machine.{Machine}
@@ -10,27 +10,31 @@ use Rattle.rules.specs.declared.about.About.{About}
 use Rattle.rules.specs.declared.Step.{Step}
 use Rattle.rules.specs.declared.Step.the-variants.{Send, Receive, PreCheck, SendRecord, Timeout, TakeRecord, TakeAck, PostCheck, TakeRepair, SendUpdate, TakeUpdate, TakeUack, Expire, Lose, Crash, Restart}
 
--- send and pre-check look back at the receipts of their actor, and so at views that they aren't about
-abbrev pub lookingBack : ℕ → About
-lookingBack a = record { back = true; acting = true; actor = a; view = 0; whose = 0; store = 0 }
+-- send and pre-check look back at the receipts of their actor; send makes an interaction too
+abbrev pub lookingBack : ℕ → Bool → ℕ → ℕ → ℕ → About
+lookingBack a making to p causes =
+    record { back = true; making = making; acting = true; actor = a; view = 0; whose = 0; store = p; other = to; causes = causes }
 
 -- the actor is named, and the view is its queue's head
 abbrev pub ofActor : ℕ → ℕ → ℕ → About
-ofActor a whose p = record { back = false; acting = true; actor = a; view = 0; whose = whose; store = p }
+ofActor a whose p =
+    record { back = false; making = false; acting = true; actor = a; view = 0; whose = whose; store = p; other = 0; causes = 0 }
 
 -- the view is named, and the actor is the view's
 abbrev pub ofView : ℕ → ℕ → ℕ → About
-ofView k r whose = record { back = false; acting = false; actor = 0; view = number k r; whose = whose; store = 0 }
+ofView k r whose =
+    record { back = false; making = false; acting = false; actor = 0; view = number k r; whose = whose; store = 0; other = 0; causes = 0 }
 
 -- the store is named too
 abbrev pub ofPlace : ℕ → ℕ → ℕ → About
-ofPlace p k r = record { back = false; acting = false; actor = 0; view = number k r; whose = 0; store = p }
+ofPlace p k r =
+    record { back = false; making = false; acting = false; actor = 0; view = number k r; whose = 0; store = p; other = 0; causes = 0 }
 
 -- what each kind names; where it names no store and needs none, store 0
 abbrev pub aboutOf : Step → About
-aboutOf (Send from to own word causes) = lookingBack from
+aboutOf (Send from to own word causes) = lookingBack from true to own causes
 aboutOf (Receive k) = ofView k 1 0
-aboutOf (PreCheck a) = lookingBack a
+aboutOf (PreCheck a) = lookingBack a false 0 0 0
 aboutOf (SendRecord a) = ofActor a 1 0
 aboutOf (Timeout a p) = ofActor a 0 p
 aboutOf (TakeRecord p k r) = ofPlace p k r
@@ -49,9 +53,13 @@ aboutOf (Restart p) = ofPlace p 0 0
 abbrev pub storeOf : ℕ → ℕ → ℕ → ℕ → ℕ
 storeOf whose named current destination = pick (eqb whose 0) named (pick (eqb whose 1) current destination)
 
+-- the sender's view of the interaction to be made; where none can be, a view all the same
+abbrev pub nextView : ℕ → ℕ
+nextView made = pick (ltb made 16) (number made 0) 0
+
 -- the view, the actor and the store, in a machine
 abbrev pub viewAbout : Machine → About → ℕ
-viewAbout m b = pick (b .acting) (head m (b .actor)) (b .view)
+viewAbout m b = pick (b .acting) (pick (b .making) (nextView (m .made)) (head m (b .actor))) (b .view)
 
 abbrev pub actorAbout : Machine → About → ℕ
 actorAbout m b = pick (b .acting) (b .actor) (view m (viewAbout m b) .actor)

@@ -1,14 +1,19 @@
 -- What stands in the slots that a step is about, and a machine with those slots written anew.
 use Prim.Native.Nat.{ℕ, _-_, _/_, _%_, _<_}
-use mathlib.Core.Bool.{false}
+use mathlib.Core.Bool.{true, false}
 use mathlib.Core.Path.{_≡_}
 use lib.ListN.{getD, set}
+use Rattle.machine.specs.Words.{pick, table}
 use Rattle.machine.specs.Slots.{number, place, linksPlace, home, list, queue, message, view, repair, entry, isUp, recordCopies, ackCopies, updateCopies, uackCopies, contents, viewlink, noLinks}
-use Rattle.machine.specs.Setup.{answered}
+use Rattle.machine.specs.Setup.{answered, blankView}
 use Rattle.machine.specs.declared.Machine.{Machine}
+use Rattle.machine.specs.declared.View.{View}
 use Rattle.machine.specs.declared.Answered.{Answered}
 use Rattle.rules.specs.About.{aboutOf, actorAbout, viewAbout, storeAbout, outsideOf}
+use Rattle.rules.specs.PreCheck.{checkedLink}
+use Rattle.rules.specs.Send.{causesKnown}
 use Rattle.rules.specs.declared.about.About.{About}
+use Rattle.rules.specs.declared.past.Past.{Past}
 use Rattle.rules.specs.declared.slots.Slots.{Slots}
 use Rattle.rules.specs.declared.slots.Tried.{Tried}
 use Rattle.rules.specs.declared.Step.{Step}
@@ -17,19 +22,34 @@ use Rattle.rules.specs.declared.Step.{Step}
 abbrev pub opposite : ℕ → ℕ
 opposite v = number (v / 2) (1 - v % 2)
 
--- the slots of an actor, a view and a store
-abbrev pub slotsAt : Machine → ℕ → ℕ → ℕ → Slots
-slotsAt m a v p =
+-- what a step looks back at: whether its actor has received every cause, and the view's cause links, each brought up to its
+-- receipt
+abbrev pub pastOf : Machine → ℕ → ℕ → View → Past
+pastOf m a causes w = record { known = causesKnown m a causes; links = table (checkedLink m w) 16 }
+
+abbrev pub noPast : Past
+noPast = record { known = true; links = blankView .links }
+
+abbrev pub pastAbout : Machine → About → ℕ → Past
+pastAbout m b v = pick (b .back) (pastOf m (b .actor) (b .causes) (view m v)) noPast
+
+-- the slots of an actor, a view and a store, with what a step about them looks back at
+abbrev pub slotsAt : Machine → About → ℕ → ℕ → ℕ → Past → Slots
+slotsAt m b a v p past =
     record {
       number = v;
       store = p;
       home = home m a;
       list = list m a;
+      far = home m (b .other);
+      past = past;
+      made = m .made;
       queue = queue m a;
       message = message m (v / 2);
       view = view m v;
       repair = repair m v;
       entry = entry m v;
+      facing = view m (opposite v);
       other = entry m (opposite v);
       up = isUp m p;
       records = recordCopies m p v;
@@ -42,18 +62,19 @@ slotsAt m a v p =
       across = viewlink m p (opposite v);
     }
 
-abbrev pub withSlotsAt : Machine → ℕ → ℕ → ℕ → Slots → Machine
-withSlotsAt m a v p x =
+-- the machine with these slots written; the number made is written by a step that makes an interaction alone
+abbrev pub withSlotsAt : Machine → About → ℕ → ℕ → ℕ → Slots → Machine
+withSlotsAt m b a v p x =
     record {
       stores = m .stores;
       actors = m .actors;
-      made = m .made;
+      made = pick (b .making) (x .made) (m .made);
       homes = m .homes;
       lists = m .lists;
       queues = set (m .queues) a (x .queue);
       up = set (m .up) p (x .up);
       messages = set (m .messages) (v / 2) (x .message);
-      views = set (m .views) v (x .view);
+      views = set (set (m .views) v (x .view)) (opposite v) (x .facing);
       repairs = set (m .repairs) v (x .repair);
       entries = set (set (m .entries) v (x .entry)) (opposite v) (x .other);
       records = set (m .records) (place p v) (x .records);
@@ -67,10 +88,10 @@ withSlotsAt m a v p x =
 
 -- the slots that a step is about
 abbrev pub slotsOf : Machine → About → Slots
-slotsOf m b = slotsAt m (actorAbout m b) (viewAbout m b) (storeAbout m b)
+slotsOf m b = slotsAt m b (actorAbout m b) (viewAbout m b) (storeAbout m b) (pastAbout m b (viewAbout m b))
 
 abbrev pub withSlots : Machine → About → Slots → Machine
-withSlots m b x = withSlotsAt m (actorAbout m b) (viewAbout m b) (storeAbout m b) x
+withSlots m b x = withSlotsAt m b (actorAbout m b) (viewAbout m b) (storeAbout m b) x
 
 -- what comes of a step's number and slots
 abbrev pub outcome : Machine → Step → Tried → Answered
@@ -89,3 +110,4 @@ pub record Fits (b : About) (x : Slots) : Type 0 where
   pub own8 : x .entry .own < 8
   pub named : b .acting ≡ false → x .number ≡ b .view
   pub room : b .acting ≡ false → x .number % 2 ≡ 1 → x .view .phase ≡ 0 → x .queue .len < 16
+  pub sendRoom : b .making ≡ true → x .made < 16 → x .queue .len < 16

@@ -3,14 +3,16 @@ ghost use Prim.Native.Nat.{_<_};
 ghost use mathlib.Core.Bool.{_||_};
 ghost use mathlib.Core.Path.{_≡_};
 ghost use Rattle.machine.specs.Words.{pick};
-ghost use Rattle.rules.specs.About.{aboutOf, lookingBack, ofActor, ofView, ofPlace, outsideOf, storeOf};
+ghost use Rattle.rules.specs.About.{aboutOf, lookingBack, nextView, ofActor, ofView, ofPlace, outsideOf, storeOf};
 ghost use Rattle.rules.specs.Rule.{outside};
 use crate::Step;
 
 // As far as the step tells.
 pub(crate) struct About {
-    // Send and pre-check look back at the receipts of their actor, and so at views that they aren't about.
+    // Send and pre-check look back at the receipts of their actor.
     pub back: bool,
+    // Send makes an interaction, and the view is the sender's of that one.
+    pub making: bool,
     // The actor is named, and the view is its queue's head; else the view is named, and the actor is the view's.
     pub acting: bool,
     pub actor: u8,
@@ -18,6 +20,9 @@ pub(crate) struct About {
     // 0 the store that is named, 1 the view's current store, 2 the destination of its entry.
     pub whose: u8,
     pub store: u8,
+    // What a send names beside these: the receiver, and the causes.
+    pub other: u8,
+    pub causes: u16,
 }
 
 fn of_actor(actor: u8, whose: u8, store: u8) -> About
@@ -25,24 +30,30 @@ fn of_actor(actor: u8, whose: u8, store: u8) -> About
 {
     About {
         back: false,
+        making: false,
         acting: true,
         actor,
         view: 0,
         whose,
         store,
+        other: 0,
+        causes: 0,
     }
 }
 
-fn looking_back(actor: u8) -> About
-    ensures { λ r. ⌜ r ≡ lookingBack actor ⌝ }
+fn looking_back(actor: u8, making: bool, other: u8, store: u8, causes: u16) -> About
+    ensures { λ r. ⌜ r ≡ lookingBack actor making other store causes ⌝ }
 {
     About {
         back: true,
+        making,
         acting: true,
         actor,
         view: 0,
         whose: 0,
-        store: 0,
+        store,
+        other,
+        causes,
     }
 }
 
@@ -51,11 +62,14 @@ fn of_view(key: u8, role: u8, whose: u8) -> About
 {
     About {
         back: false,
+        making: false,
         acting: false,
         actor: 0,
         view: key as usize * 2 + role as usize,
         whose,
         store: 0,
+        other: 0,
+        causes: 0,
     }
 }
 
@@ -64,11 +78,14 @@ fn of_place(store: u8, key: u8, role: u8) -> About
 {
     About {
         back: false,
+        making: false,
         acting: false,
         actor: 0,
         view: key as usize * 2 + role as usize,
         whose: 0,
         store,
+        other: 0,
+        causes: 0,
     }
 }
 
@@ -82,9 +99,9 @@ pub(crate) fn about_of(s: Step) -> About
             own,
             word,
             causes,
-        } => looking_back(from),
+        } => looking_back(from, true, to, own, causes),
         Step::Receive { key } => of_view(key, 1, 0),
-        Step::PreCheck { actor } => looking_back(actor),
+        Step::PreCheck { actor } => looking_back(actor, false, 0, 0, 0),
         Step::SendRecord { actor } => of_actor(actor, 1, 0),
         Step::Timeout { actor, store } => of_actor(actor, 0, store),
         Step::TakeRecord { store, key, role } => of_place(store, key, role),
@@ -106,16 +123,30 @@ pub(crate) fn about_of(s: Step) -> About
     }
 }
 
-// The head of the actor's queue, or the view that is named.
-pub(crate) fn view_of(acting: bool, head: u8, named: usize) -> usize
-    requires { ⌜ (head < 32) × (named < 32) ⌝ }
-    ensures same { λ r. ⌜ r ≡ pick acting head named ⌝ }
+// The sender's view of the interaction to be made; where none can be, a view all the same.
+fn next_view(made: u8) -> usize
+    ensures same { λ r. ⌜ r ≡ nextView made ⌝ }
     ensures low { λ r. ⌜ r < 32 ⌝ }
 {
-    if acting {
-        return head as usize;
+    if made < 16 {
+        return made as usize * 2;
     }
-    named
+    0
+}
+
+// The view that is named, the one to be made, or the head of the actor's queue.
+pub(crate) fn view_of(acting: bool, making: bool, made: u8, head: u8, named: usize) -> usize
+    requires { ⌜ (head < 32) × (named < 32) ⌝ }
+    ensures same { λ r. ⌜ r ≡ pick acting (pick making (nextView made) head) named ⌝ }
+    ensures low { λ r. ⌜ r < 32 ⌝ }
+{
+    if !acting {
+        return named;
+    }
+    if making {
+        return next_view(made);
+    }
+    head as usize
 }
 
 // The actor that is named, or the view's.
@@ -143,6 +174,16 @@ pub(crate) fn store_of(whose: u8, named: u8, current: u8, destination: u8) -> us
         return current as usize;
     }
     destination as usize
+}
+
+// The number made after a step: only one that makes an interaction writes it.
+pub(crate) fn made_of(making: bool, after: u8, before: u8) -> u8
+    ensures { λ r. ⌜ r ≡ pick making after before ⌝ }
+{
+    if making {
+        return after;
+    }
+    before
 }
 
 fn outside_view(made: u8, key: u8, role: u8) -> bool

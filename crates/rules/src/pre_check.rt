@@ -1,44 +1,41 @@
 // Step 3, pre-check: actor.
-ghost use Prim.Native.Nat.{_<_};
+ghost use Prim.Native.Nat.{ℕ, _<_};
 ghost use mathlib.Core.Bool.{_&&_};
 ghost use mathlib.Core.Path.{_≡_};
-ghost use Rattle.machine.specs.Bounds.{Bounds};
 ghost use Rattle.machine.specs.Setup.{emptyMachine};
 ghost use Rattle.machine.specs.Words.{bit, pick, table};
 ghost use Rattle.machine.specs.Writes.{withViews};
-ghost use Rattle.rules.specs.PreCheck.{checkedLink, preCheckNo, preChecked};
-ghost use Rattle.rules.specs.Rule.{decided};
-use crate::Recorder;
-use machine::Answered;
+ghost use Rattle.machine.specs.declared.Machine.{Machine};
+ghost use Rattle.rules.specs.PreCheck.{checkedLink};
+ghost use Rattle.rules.specs.Slots.{Stands, outcome};
+ghost use Rattle.rules.specs.Step.{ruleOf};
+ghost use Rattle.rules.specs.declared.Step.the-variants.{PreCheck};
+use crate::slots::Slots;
+use crate::slots::Tried;
 use machine::View;
 
-impl Recorder {
+impl Slots {
     // Head in phase 1. Each cause link becomes the store recorded for that receipt if its changed flag is set. Phase 2.
-    pub(crate) fn pre_check(self, actor: u8) -> Answered
-        requires { ⌜ Bounds (self .machine) ⌝ }
-        ensures { λ r. ⌜ r ≡ decided (preCheckNo (self .machine) actor) (self .machine) (preChecked (self .machine) actor) ⌝ }
+    pub(crate) fn pre_check(self) -> Tried
+        ensures { λ r. ⌜ ((m : Machine) (a : ℕ) → Stands m (PreCheck a) self → ruleOf m (PreCheck a) ≡ outcome m (PreCheck a) r) ⌝ }
     {
-        let mut m = self.machine;
-        if m.actors <= actor {
-            return self.refused(2);
-        }
-        let q = m.queues[actor as usize];
+        let q = self.queue;
         if q.len == 0 {
-            return self.refused(7);
+            return self.with(7);
         }
-        let head = q.views[0] as usize;
-        let mut w = m.views[head];
+        let mut w = self.view;
         if w.phase != 1 {
-            return self.refused(7);
+            return self.with(7);
         }
-        let views = m.views;
-        let links = checked_links(views, w);
+        let past = self.past;
+        let links = past.links;
         w.links = links;
         w.phase = 2;
-        m.views[head] = w;
-        Answered {
-            machine: m,
+        let mut x = self;
+        x.view = w;
+        Tried {
             answer: 0,
+            slots: x,
         }
     }
 }
@@ -58,7 +55,7 @@ fn checked_link(receipt: View, causes: u16, link: u8, j: usize) -> u8
 }
 
 // The contract's machine has these views; nothing else of it is looked at.
-fn checked_links(views: [View; 32], w: View) -> [u8; 16]
+pub(crate) fn checked_links(views: [View; 32], w: View) -> [u8; 16]
     ensures { λ r. ⌜ r ≡ table (checkedLink (withViews emptyMachine views) w) 16 ⌝ }
 {
     let mut links = [0u8; 16];

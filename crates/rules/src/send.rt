@@ -1,88 +1,77 @@
 // Step 1, send: from, to, own store, data, causes.
 ghost use Prim.Native.Nat.{_<_};
 ghost use lib.Dec.{eqb, ltb};
-ghost use mathlib.Core.Bool.{_&&_, _||_, not};
+ghost use mathlib.Core.Bool.{_&&_, _||_, false, not};
 ghost use mathlib.Core.Path.{_≡_};
-ghost use Rattle.machine.specs.Bounds.{Bounds};
-ghost use Rattle.machine.specs.Setup.{answered, emptyMachine};
+ghost use Rattle.machine.specs.Setup.{emptyMachine};
 ghost use Rattle.machine.specs.Words.{bit, table};
 ghost use Rattle.machine.specs.Writes.{withMade, withViews};
-ghost use Rattle.rules.specs.Rule.{decided};
-ghost use Rattle.rules.specs.Send.{awaitedView, causesKnown, homeLink, joined, sendNo, sent};
-use crate::Recorder;
-use machine::Answered;
+ghost use Rattle.machine.specs.declared.Machine.{Machine};
+ghost use Rattle.rules.specs.Send.{awaitedView, causesKnown, homeLink, joined};
+ghost use Rattle.rules.specs.Slots.{Stands, outcome};
+ghost use Rattle.rules.specs.Step.{ruleOf};
+ghost use Rattle.rules.specs.declared.Step.the-variants.{Send};
+use crate::slots::Slots;
+use crate::slots::Tried;
 use machine::Message;
 use machine::Queue;
 use machine::View;
 
-impl Recorder {
-    // Own is in from's list; each cause is an interaction that from has received.
-    pub(crate) fn send(self, from: u8, to: u8, own: u8, word: u32, causes: u16) -> Answered
-        requires { ⌜ Bounds (self .machine) ⌝ }
-        ensures { λ r. ⌜ r ≡ decided (sendNo (self .machine) from to own causes) (self .machine) (sent (self .machine) from to own word causes) ⌝ }
+impl Slots {
+    // Own is in from's list; each cause is an interaction that from has received. The application message is in flight, and
+    // the sender's record joins the queue.
+    pub(crate) fn send(self, from: u8, to: u8, own: u8, word: u32, causes: u16) -> Tried
+        requires { ⌜ (self .store < 8) × (self .made < 16 → self .queue .len < 16) ⌝ }
+        ensures { λ r. ⌜ ((m : Machine) → Stands m (Send from to own word causes) self → ruleOf m (Send from to own word causes) ≡ outcome m (Send from to own word causes) r) ⌝ }
     {
-        let m = self.machine;
-        if m.actors <= from {
-            return self.refused(2);
-        }
-        if m.actors <= to {
-            return self.refused(2);
-        }
-        if m.stores <= own {
-            return self.refused(2);
-        }
         if from == to {
-            return self.refused(3);
+            return self.with(3);
         }
-        if 16 <= m.made {
-            return self.refused(4);
+        if 16 <= self.made {
+            return self.with(4);
         }
-        if (m.lists[from as usize] >> own) % 2 != 1 {
-            return self.refused(8);
+        if (self.list >> self.store) % 2 != 1 {
+            return self.with(8);
         }
-        let views = m.views;
-        if !causes_known(views, m.made, from, causes) {
-            return self.refused(9);
+        let past = self.past;
+        if !past.known {
+            return self.with(9);
         }
-        self.sent(from, to, own, word, causes)
-    }
-
-    // The application message is in flight, and the sender's record joins the queue.
-    fn sent(self, from: u8, to: u8, own: u8, word: u32, causes: u16) -> Answered
-        requires { ⌜ Bounds (self .machine) × (from < 8) × (to < 8) × (self .machine .made < 16) ⌝ }
-        ensures { λ r. ⌜ r ≡ answered 0 (sent (self .machine) from to own word causes) ⌝ }
-    {
-        let mut m = self.machine;
-        let a = from as usize;
-        let k = m.made as usize;
-        let links = home_links(causes, m.homes[a]);
-        let far = m.homes[to as usize];
-        let queue = joined(m.queues[a], m.made * 2);
-        let sender = View {
-            actor: from,
-            phase: 1,
-            store: own,
-            viewlink: far,
-            changed: false,
-            causes: causes,
-            word: word,
-            links: links,
-        };
-        let receiver = awaited_view(to);
+        let queue = joined(self.queue, self.made * 2);
         let message = Message {
             flying: true,
-            own: own,
-            word: word,
+            own,
+            word,
         };
-        m.views[k * 2] = sender;
-        m.views[k * 2 + 1] = receiver;
-        m.queues[a] = queue;
-        m.messages[k] = message;
-        m.made += 1;
-        Answered {
-            machine: m,
+        let sender = sent_view(from, own, self.far, word, causes, self.home);
+        let receiver = awaited_view(to);
+        let mut x = self;
+        x.queue = queue;
+        x.message = message;
+        x.view = sender;
+        x.facing = receiver;
+        x.made += 1;
+        Tried {
             answer: 0,
+            slots: x,
         }
+    }
+}
+
+// The sender's record: phase 1, store own, viewlink home of to, every cause link home of from.
+fn sent_view(from: u8, own: u8, far: u8, word: u32, causes: u16, home: u8) -> View
+    ensures { λ r. ⌜ r ≡ record { actor = from; phase = 1; store = own; viewlink = far; changed = false; causes = causes; word = word; links = table (homeLink causes home) 16 } ⌝ }
+{
+    let links = home_links(causes, home);
+    View {
+        actor: from,
+        phase: 1,
+        store: own,
+        viewlink: far,
+        changed: false,
+        causes,
+        word,
+        links,
     }
 }
 
@@ -121,7 +110,7 @@ fn cause_known(w: View, made: u8, actor: u8, causes: u16, j: usize) -> bool
 }
 
 // The contract's machine has these views and this number made; nothing else of it is looked at.
-fn causes_known(views: [View; 32], made: u8, actor: u8, causes: u16) -> bool
+pub(crate) fn causes_known(views: [View; 32], made: u8, actor: u8, causes: u16) -> bool
     ensures { λ r. ⌜ r ≡ causesKnown (withMade (withViews emptyMachine views) made) actor causes ⌝ }
 {
     let mut j: usize = 0;

@@ -1,12 +1,12 @@
 // What stands in the slots that a step is about. A rule takes them and gives them back, so that whoever calls it
 // reads and writes a machine in place.
-ghost use mathlib.Core.Bool.{false};
 ghost use mathlib.Core.Path.{_≡_};
 ghost use Rattle.machine.specs.declared.Machine.{Machine as State};
 ghost use Rattle.rules.specs.About.{aboutOf};
 ghost use Rattle.rules.specs.Slots.{Fits, Stands, outcome};
 ghost use Rattle.rules.specs.Step.{ruleOf};
 use crate::Step;
+use crate::past::Past;
 use machine::Contents;
 use machine::Entry;
 use machine::Links;
@@ -16,17 +16,23 @@ use machine::Repair;
 use machine::View;
 
 pub(crate) struct Slots {
-    // Which view and which store; home and list of the actor. No rule writes these.
+    // Which view and which store; home and list of the actor; home of the other actor; what the step looks back at.
+    // No rule writes these.
     pub number: usize,
     pub store: u8,
     pub home: u8,
     pub list: u8,
+    pub far: u8,
+    pub past: Past,
+    // How many interactions are made.
+    pub made: u8,
     // Of the actor, of the interaction, of the view, of the opposite view, of the store.
     pub queue: Queue,
     pub message: Message,
     pub view: View,
     pub repair: Repair,
     pub entry: Entry,
+    pub facing: View,
     pub other: Entry,
     pub up: bool,
     // Copies in flight at the store for the view.
@@ -58,10 +64,9 @@ impl Slots {
         }
     }
 
-    // The rule of a step, for all but those that look back.
+    // The rule of a step.
     pub(crate) fn rule(self, s: Step) -> Tried
         requires { ⌜ Fits (aboutOf s) self ⌝ }
-        requires { ⌜ aboutOf s .back ≡ false ⌝ }
         ensures { λ r. ⌜ ((m : State) → Stands m s self → ruleOf m s ≡ outcome m s r) ⌝ }
     {
         match s {
@@ -71,9 +76,9 @@ impl Slots {
                 own,
                 word,
                 causes,
-            } => self.with(2),
+            } => self.send(from, to, own, word, causes),
             Step::Receive { key } => self.receive(),
-            Step::PreCheck { actor } => self.with(2),
+            Step::PreCheck { actor } => self.pre_check(),
             Step::SendRecord { actor } => self.send_record(),
             Step::Timeout { actor, store } => self.timeout(),
             Step::TakeRecord { store, key, role } => self.take_record(),

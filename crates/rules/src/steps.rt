@@ -2,19 +2,21 @@
 ghost use mathlib.Core.Bool.{false};
 ghost use mathlib.Core.Path.{_≡_};
 ghost use Prim.Native.Nat.{_≤_};
-ghost use lib.ListN.{take};
 ghost use Rattle.machine.specs.Broken.{brokenOf};
 ghost use Rattle.machine.specs.declared.Machine.{Machine as State};
 ghost use Rattle.rules.specs.Step.{stepOf};
-ghost use Rattle.rules.specs.Steps.{answers, ran};
+ghost use Rattle.rules.specs.Steps.{manyOf};
 ghost use Rattle.rules.specs.declared.Step.{Step as Taken};
 use crate::Recorder;
 use crate::Step;
 use crate::about::about_of;
 use crate::about::actor_of;
+use crate::about::made_of;
 use crate::about::names_outside;
 use crate::about::store_of;
 use crate::about::view_of;
+use crate::past::look_back;
+use crate::past::no_past;
 use crate::slots::Slots;
 use machine::Machine;
 
@@ -26,33 +28,25 @@ pub struct Many {
 
 impl Recorder {
     // The first n steps, for who knows the machine to be unbroken, and that no step breaks it. Of the machine only the slots
-    // that a step is about are read and written, where they stand; send and pre-check look back, and so take it whole.
+    // that a step is about are read and written, where they stand.
     pub fn steps_unbroken(self, steps: [Step; 64], n: usize) -> Many
         requires { ⌜ (n ≤ 64) × (brokenOf (self .machine) ≡ false) ⌝ }
         requires { ⌜ ((m : State) (s : Taken) → brokenOf m ≡ false → brokenOf (stepOf m s .machine) ≡ false) ⌝ }
-        ensures { λ r. ⌜ (r .machine ≡ ran (self .machine) (take n steps)) × (take n (r .answers) ≡ answers (self .machine) (take n steps)) ⌝ }
+        ensures { λ r. ⌜ r ≡ manyOf (self .machine) steps n ⌝ }
     {
         let mut m = self.machine;
         let mut answers = [0u8; 64];
         let mut i: usize = 0;
         while i < n {
             let s = steps[i];
-            let b = about_of(s);
-            if b.back {
-                let r = Recorder { machine: m }.rule(s);
-                let next = r.machine;
-                m = next;
-                answers[i] = r.answer;
-                i += 1;
-                continue;
-            }
             if names_outside(s, m.stores, m.actors, m.made) {
                 answers[i] = 2;
                 i += 1;
                 continue;
             }
+            let b = about_of(s);
             let named = m.queues[b.actor as usize];
-            let v = view_of(b.acting, named.views[0], b.view);
+            let v = view_of(b.acting, b.making, m.made, named.views[0], b.view);
             let w = m.views[v];
             let e = m.entries[v];
             let a = actor_of(b.acting, b.actor, w.actor);
@@ -65,19 +59,29 @@ impl Recorder {
             let queue = m.queues[a];
             let message = m.messages[k];
             let repair = m.repairs[v];
+            let facing = m.views[o];
             let other = m.entries[o];
             let contents = m.contents[at];
             let links = m.links[sender];
+            let mut past = no_past();
+            if b.back {
+                let views = m.views;
+                past = look_back(views, m.made, b.actor, b.causes, w);
+            }
             let x = Slots {
                 number: v,
                 store: p as u8,
                 home: m.homes[a],
                 list: m.lists[a],
+                far: m.homes[b.other as usize],
+                past,
+                made: m.made,
                 queue,
                 message,
                 view: w,
                 repair,
                 entry: e,
+                facing,
                 other,
                 up: m.up[p],
                 records: m.records[at],
@@ -96,12 +100,15 @@ impl Recorder {
             let view = y.view;
             let repair = y.repair;
             let entry = y.entry;
+            let facing = y.facing;
             let other = y.other;
             let contents = y.contents;
             let links = y.links;
+            m.made = made_of(b.making, y.made, m.made);
             m.queues[a] = queue;
             m.messages[k] = message;
             m.views[v] = view;
+            m.views[o] = facing;
             m.repairs[v] = repair;
             m.entries[v] = entry;
             m.entries[o] = other;

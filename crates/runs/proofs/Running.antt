@@ -5,12 +5,14 @@ use mathlib.Core.Path.{_≡_, refl, sym, ap, _∙_}
 use mathlib.Core.Bool.{false}
 use mathlib.Core.List.{List, [], _∷_, _++_}
 use native.Mathlib.Omega.{arith}
-use lib.ListN.{length, take, drop, length-append}
-use lib.Seq.{sets, sets-eq, length-sets}
+use lib.ListN.{length, take, drop, replicate, length-append}
+use lib.Seq.{sets, sets-eq, length-sets, take-at}
 use Rattle.machine.specs.Words.{times}
 use Rattle.machine.specs.Broken.{brokenOf}
 use Rattle.machine.specs.declared.Machine.{Machine}
+use Rattle.rules.specs.Steps.{manyOf}
 use Rattle.rules.specs.declared.Step.{Step}
+use Rattle.rules.specs.declared.steps.Many.{Many}
 use Rattle.runs.specs.declared.Read.{Read}
 use Rattle.runs.specs.declared.Read.the-variants.{Got, Bad}
 use Rattle.runs.specs.Book.{readStep, stepsFrom, onRead}
@@ -58,14 +60,15 @@ module _ {s : List ℕ} {n : ℕ} {a₀ : List ℕ} {p₀ : ℕ} {m₀ : Machine
       }
 
   -- as the code has them: counted, read into an array, and their answers in another
-  pub run-batch : {c next : ℕ} (steps : List Step) (given : List ℕ) {m′ : Machine} {b : List ℕ} {k : ℕ} → i + c ≤ n → length (stepsFrom s c p) ≡ c
+  pub run-batch : {c next : ℕ} (steps : List Step) {many : Many} {b : List ℕ} {k : ℕ} → i + c ≤ n → length (stepsFrom s c p) ≡ c
       → ((t : ℕ) → stepsFrom s (c + t) p ≡ stepsFrom s c p ++ stepsFrom s t next) → take (length (stepsFrom s c p)) steps ≡ stepsFrom s c p
-      → (m′ ≡ ran m (take c steps)) × (take c given ≡ answers m (take c steps)) → b ≡ sets a i (take c given) → (k ≡ times 0 (take c given)) × (k ≤ c)
-      → Running s n a₀ p₀ m₀ b next m′ (i + c) (taken + k)
-  run-batch {c} {next} steps given j l f e r w o =
+      → many ≡ manyOf m steps c → b ≡ sets a i (take c (many .answers)) → (k ≡ times 0 (take c (many .answers))) × (k ≤ c)
+      → Running s n a₀ p₀ m₀ b next (many .machine) (i + c) (taken + k)
+  run-batch {c} {next} steps {many} j l f e r w o =
       let x : take c steps ≡ stepsFrom s c p = ap (λ (t : ℕ). take t steps) (sym l) ∙ e in
-      let y : take c given ≡ answers m (stepsFrom s c p) = r .1 ∙ ap (answers m) x in
-      run-some (stepsFrom s c p) l j (f (n - i - c)) (r .0 ∙ ap (ran m) x) (w ∙ ap (sets a i) y) (o .0 ∙ ap (times 0) y) (o .1)
+      let q : many ≡ record { machine = ran m (stepsFrom s c p); answers = answers m (stepsFrom s c p) ++ drop c (replicate 64 0) } = r ∙ (λ i. record { machine = ran m (x i); answers = answers m (x i) ++ drop c (replicate 64 0) }) in
+      let y : take c (many .answers) ≡ answers m (stepsFrom s c p) = ap (λ (t : Many). take c (t .answers)) q ∙ take-at (answers m (stepsFrom s c p)) (drop c (replicate 64 0)) c (answers-length m (stepsFrom s c p) ∙ l) in
+      run-some (stepsFrom s c p) l j (f (n - i - c)) (ap (λ (t : Many). t .machine) q) (w ∙ ap (sets a i) y) (o .0 ∙ ap (times 0) y) (o .1)
 
 -- a buffer with the answers set one by one is filled
 sets-filled : (m : Machine) (steps : List Step) (a : List ℕ) → length steps ≤ length a → sets a 0 (answers m steps) ≡ filled m steps a

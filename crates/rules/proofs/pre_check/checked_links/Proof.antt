@@ -6,7 +6,7 @@ use borrow.Author.Needs.{needs}
 use Rattle.machine.specs.Setup.{emptyMachine}
 use Rattle.machine.specs.Writes.{withViews}
 use Rattle.rules.specs.PreCheck.{checkedLink}
-use Rattle.rules.proofs.Loops.{Filled, fill-end, fill-start, fill-step}
+use Rattle.machine.proofs.Fill.{Filled, fill-end, fill-start, fill-step}
 use Rattle.rules.proofs.pre_check.checked_links.Statement.{statement}
 use Rattle.rules.proofs.pre_check.checked_links.Tie as tie
 

@@ -7,18 +7,18 @@ use borrow.Author.Tests.{not-false, not-true}
 use Rattle.machine.specs.Setup.{emptyMachine}
 use Rattle.machine.specs.Writes.{withMade, withViews}
 use Rattle.rules.specs.Send.{causeKnown, causesKnown}
-use Rattle.rules.proofs.Loops.{Passed, pass-end, pass-start, pass-step, pass-stop}
+use Rattle.machine.proofs.Pass.{Below, below-end, below-start, below-step, below-stop}
 use Rattle.rules.proofs.send.causes_known.Statement.{statement}
 use Rattle.rules.proofs.send.causes_known.Tie as tie
 
 abbrev Inv-loop : tie.InvT-loop
-Inv-loop made actor causes views j₀ j = Passed (causeKnown (withMade (withViews emptyMachine views) made) actor causes) 16 j
+Inv-loop made actor causes views j₀ j = Below 16 (causeKnown (withMade (withViews emptyMachine views) made) actor causes) j
 
 abbrev μ-loop : tie.MeasureT-loop
 μ-loop made actor causes views j₀ j = 16 - j
 
 loop-holds : tie.Need-loop-holds Inv-loop μ-loop
-loop-holds c = pass-start _ _
+loop-holds c = below-start _ _
 
 mul-w : tie.Need-mul-w Inv-loop μ-loop
 mul-w c = search needs
@@ -38,7 +38,7 @@ cause-known-requires c κs = omega arith
 returns : tie.Need-returns Inv-loop μ-loop
 unfolding causesKnown
 returns c =
-    pass-stop (c .before .before .before .before .loop .inv) (c .before .before .before .loop-test .taken) (sym (c .before .cause-known .ensures) ∙ not-true _ (c .if1 .taken))
+    below-stop (c .before .before .before .before .loop .inv) (c .before .before .before .loop-test .taken) (sym (c .before .cause-known .ensures) ∙ not-true _ (c .if1 .taken))
 
 add-j : tie.Need-add-j Inv-loop μ-loop
 add-j c = omega arith
@@ -48,11 +48,11 @@ loop-less c = omega arith
 
 loop-again : tie.Need-loop-again Inv-loop μ-loop
 loop-again c =
-    pass-step (c .before .before .before .before .loop .inv) (c .before .before .before .loop-test .taken) (sym (c .before .cause-known .ensures) ∙ not-false _ (c .if1 .left))
+    below-step (c .before .before .before .before .loop .inv) (c .before .before .before .loop-test .taken) (sym (c .before .cause-known .ensures) ∙ not-false _ (c .if1 .left))
 
 returns-2 : tie.Need-returns-2 Inv-loop μ-loop
 unfolding causesKnown
-returns-2 c = pass-end (c .before .loop .inv) (c .loop-test .left)
+returns-2 c = below-end (c .before .loop .inv) (c .loop-test .left)
 
 pub causes-known-spec : {M : Type 1} → statement M
 causes-known-spec =

@@ -3,7 +3,7 @@ use Prim.Native.Nat.{_-_}
 use mathlib.Core.Path.{refl}
 use native.Mathlib.Omega.{arith}
 use Rattle.rules.specs.Send.{homeLink}
-use Rattle.rules.proofs.Loops.{Filled, fill-end, fill-start, fill-step}
+use Rattle.machine.proofs.Fill.{Filled, fill-end, fill-start, fill-step}
 use Rattle.rules.proofs.send.home_links.Statement.{statement}
 use Rattle.rules.proofs.send.home_links.Tie as tie
 

@@ -60,7 +60,7 @@ loop-less : tie.Need-loop-less Inv-loop μ-loop
 loop-less c = omega (arith, c .before .before .before .before .before .before .before .before .before .if1 .left, c .before .before .before .before .before .before .before .before .before .before .reach .ensures .0, c .before .before .before .before .before .before .before .before .before .before .before .wanted .ensures .0, c .before .before .before .before .before .before .before .before .before .before .before .before .loop-test .taken)
 
 loop-again : tie.Need-loop-again Inv-loop μ-loop
-loop-again c = run-batch (c .before .before .before .before .before .before .before .before .before .before .before .before .before .loop .inv) (c .before .before .before .before .before .before .before .before .load .result) (c .before .before .before .before .before .before .before .steps-unbroken .result .answers) (omega (arith, c .before .before .before .before .before .before .before .before .before .before .reach .ensures .0, c .before .before .before .before .before .before .before .before .before .before .before .wanted .ensures .0, c .before .before .before .before .before .before .before .before .before .before .before .before .before .loop .inv .low)) (c .before .before .before .before .before .before .before .before .before .before .reach .ensures .1 .0) (c .before .before .before .before .before .before .before .before .before .before .reach .ensures .1 .1 .0) (c .before .before .before .before .before .before .before .before .load .ensures) (c .before .before .before .before .before .before .before .steps-unbroken .ensures) (c .before .before .before .before .put-all .ensures) (c .before .taken .ensures)
+loop-again c = run-batch (c .before .before .before .before .before .before .before .before .before .before .before .before .before .loop .inv) (c .before .before .before .before .before .before .before .before .load .result) (omega (arith, c .before .before .before .before .before .before .before .before .before .before .reach .ensures .0, c .before .before .before .before .before .before .before .before .before .before .before .wanted .ensures .0, c .before .before .before .before .before .before .before .before .before .before .before .before .before .loop .inv .low)) (c .before .before .before .before .before .before .before .before .before .before .reach .ensures .1 .0) (c .before .before .before .before .before .before .before .before .before .before .reach .ensures .1 .1 .0) (c .before .before .before .before .before .before .before .before .load .ensures) (c .before .before .before .before .before .before .before .steps-unbroken .ensures) (c .before .before .before .before .put-all .ensures) (c .before .taken .ensures)
 
 same-length-2 : tie.Need-same-length-2 Inv-loop μ-loop
 same-length-2 c = c .before .loop .inv .long

@@ -3,7 +3,7 @@ use mathlib.Core.Path.{refl}
 use borrow.Author.Tests.{eq-eqb, ne-eqb}
 use lib.Seq.{set-getD}
 use Rattle.rules.specs.PostCheck.{postCheckNo, postChecked}
-use Rattle.rules.proofs.Standing.{refuses, grants}
+use Rattle.rules.proofs.Standing.{refuses, grants, beside-view}
 use borrow.Author.Needs.{needs}
 use Rattle.rules.proofs.slots.Slots.post_check.Statement.{statement}
 use Rattle.rules.proofs.slots.Slots.post_check.Tie as tie
@@ -30,7 +30,7 @@ left-requires c κs = search needs
 
 returns-3 : tie.Need-returns-3
 unfolding postCheckNo postChecked
-returns-3 c = λ m a h. grants h (simp (h .inside, rw (h .slots) at (ne-eqb _ _ (c .before .before .before .before .before .if1 .left)), rw (h .slots) at (eq-eqb _ _ (c .before .before .if2 .left)))) (simp (c .left .ensures, c .before .asked-repair .ensures, h .slots, set-getD))
+returns-3 c = λ m a h. grants h (simp (h .inside, rw (h .slots) at (ne-eqb _ _ (c .before .before .before .before .before .if1 .left)), rw (h .slots) at (eq-eqb _ _ (c .before .before .if2 .left)))) (simp (c .left .ensures, c .before .asked-repair .ensures, h .slots, set-getD, beside-view))
 
 pub post-check-spec : {M : Type 1} → statement M
 post-check-spec =

@@ -4,7 +4,7 @@ use borrow.Author.Tests.{eq-eqb, ne-eqb}
 use native.Mathlib.Omega.{arith}
 use lib.Seq.{set-getD}
 use Rattle.rules.specs.Receive.{receiveNo, receivedOf}
-use Rattle.rules.proofs.Standing.{refuses, grants, key-of}
+use Rattle.rules.proofs.Standing.{refuses, grants, beside-key, key-of, role-of}
 use borrow.Author.Needs.{needs}
 use Rattle.rules.proofs.slots.Slots.receive.Statement.{statement}
 use Rattle.rules.proofs.slots.Slots.receive.Tie as tie
@@ -27,7 +27,7 @@ awaited-view-requires c κs = search needs
 
 returns-2 : tie.Need-returns-2
 unfolding receiveNo receivedOf
-returns-2 c = λ m k h. grants h (simp (h .inside, rw (h .slots) at (eq-eqb _ _ (c .before .before .before .before .if1 .left)))) (simp (c .awaited-view .ensures, c .before .joined .ensures, h .slots, key-of k 1 (omega arith), set-getD) (simp set-getD))
+returns-2 c = λ m k h. grants h (simp (h .inside, rw (h .slots) at (eq-eqb _ _ (c .before .before .before .before .if1 .left)))) (simp (c .awaited-view .ensures, c .before .joined .ensures, h .slots, key-of k 1 (omega arith), role-of k 1 (omega arith), set-getD) (simp (set-getD, beside-key (m .views) k 1 (omega arith))))
 
 pub receive-spec : {M : Type 1} → statement M
 receive-spec =

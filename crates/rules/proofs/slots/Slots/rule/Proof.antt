@@ -1,9 +1,6 @@
--- `rule` meets its contract: each arm promises the rule of its kind, and no step here looks back. Assumes nothing.
-use mathlib.Core.Path.{refl, sym, ap, _∙_}
+-- `rule` meets its contract: each arm promises the rule of its kind. Assumes nothing.
+use mathlib.Core.Path.{refl}
 use native.Mathlib.Omega.{arith}
-use mathlib.Core.Bool.{true≢false}
-use Rattle.rules.specs.About.{aboutOf}
-use Rattle.rules.specs.declared.Step.{Step}
 use borrow.Author.Needs.{needs}
 use Rattle.rules.proofs.slots.Slots.rule.Statement.{statement}
 use Rattle.rules.proofs.slots.Slots.rule.Tie as tie
@@ -11,22 +8,23 @@ use Rattle.rules.proofs.slots.Slots.rule.Tie as tie
 enum-known-s : tie.Need-enum-known-s
 enum-known-s c = search needs
 
-with-requires : tie.Need-with-requires
-with-requires c κs = search needs
+send-requires : tie.Need-send-requires
+send-requires c κs =
+    let fits = rw (c .before .s .given .1) at (c .before .before .before .pre) in (fits .store8, fits .sendRoom refl)
 
 enum-known-s-2 : tie.Need-enum-known-s-2
 enum-known-s-2 c = search needs
 
 receive-requires : tie.Need-receive-requires
 receive-requires c κs =
-    let fits = rw (c .before .s2 .given .1) at (c .before .before .before .pre .0) in
+    let fits = rw (c .before .s2 .given .1) at (c .before .before .before .pre) in
     (fits .number32, fits .room refl (omega (arith, fits .named refl)))
 
 enum-known-s-3 : tie.Need-enum-known-s-3
 enum-known-s-3 c = search needs
 
-with-requires-2 : tie.Need-with-requires-2
-with-requires-2 c κs = search needs
+pre-check-requires : tie.Need-pre-check-requires
+pre-check-requires c κs = search needs
 
 enum-known-s-4 : tie.Need-enum-known-s-4
 enum-known-s-4 c = search needs
@@ -107,13 +105,13 @@ restart-requires : tie.Need-restart-requires
 restart-requires c κs = search needs
 
 returns : tie.Need-returns
-returns c = λ m h. absurd (true≢false (sym (ap (λ (s : Step). aboutOf s .back) (c .before .before .s .given .1)) ∙ c .before .before .before .before .pre .1))
+returns c = λ m h. rw (c .before .before .s .given .1) (c .send .ensures m (rw (c .before .before .s .given .1) at h))
 
 returns-2 : tie.Need-returns-2
 returns-2 c = λ m h. rw (c .before .before .s2 .given .1) (c .receive .ensures m _ (rw (c .before .before .s2 .given .1) at h))
 
 returns-3 : tie.Need-returns-3
-returns-3 c = λ m h. absurd (true≢false (sym (ap (λ (s : Step). aboutOf s .back) (c .before .before .s3 .given .1)) ∙ c .before .before .before .before .pre .1))
+returns-3 c = λ m h. rw (c .before .before .s3 .given .1) (c .pre-check .ensures m _ (rw (c .before .before .s3 .given .1) at h))
 
 returns-4 : tie.Need-returns-4
 returns-4 c = λ m h. rw (c .before .before .s4 .given .1) (c .send-record .ensures m _ (rw (c .before .before .s4 .given .1) at h))
@@ -159,11 +157,11 @@ rule-spec =
     tie.close
     (tie.spec
     enum-known-s
-    with-requires
+    send-requires
     enum-known-s-2
     receive-requires
     enum-known-s-3
-    with-requires-2
+    pre-check-requires
     enum-known-s-4
     send-record-requires
     enum-known-s-5

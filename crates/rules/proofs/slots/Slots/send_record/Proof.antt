@@ -4,7 +4,7 @@ use borrow.Author.Tests.{eq-eqb, ne-eqb}
 use mathlib.Core.Path.{refl}
 use lib.Seq.{set-getD}
 use Rattle.rules.specs.SendRecord.{recordSent, sendRecordNo}
-use Rattle.rules.proofs.Standing.{refuses, grants}
+use Rattle.rules.proofs.Standing.{refuses, grants, beside-view}
 use Rattle.rules.proofs.slots.Slots.send_record.Statement.{statement}
 use Rattle.rules.proofs.slots.Slots.send_record.Tie as tie
 
@@ -27,7 +27,7 @@ one-more-requires c κs = search needs
 
 returns-3 : tie.Need-returns-3
 unfolding sendRecordNo recordSent
-returns-3 c = λ m a h. grants h (simp (h .inside, rw (h .slots) at (ne-eqb _ _ (c .before .before .before .before .if1 .left)), rw (h .slots) at (eq-eqb _ _ (c .before .if2 .left)))) (simp (h .slots, set-getD, c .one-more .ensures))
+returns-3 c = λ m a h. grants h (simp (h .inside, rw (h .slots) at (ne-eqb _ _ (c .before .before .before .before .if1 .left)), rw (h .slots) at (eq-eqb _ _ (c .before .if2 .left)))) (simp (h .slots, set-getD, beside-view, c .one-more .ensures))
 
 pub send-record-spec : {M : Type 1} → statement M
 send-record-spec =

@@ -3,7 +3,7 @@ use mathlib.Core.Path.{refl}
 use borrow.Author.Tests.{eq-eqb, ne-eqb}
 use lib.Seq.{set-getD}
 use Rattle.rules.specs.Timeout.{timeoutNo, timedOut}
-use Rattle.rules.proofs.Standing.{refuses, grants}
+use Rattle.rules.proofs.Standing.{refuses, grants, beside-view}
 use borrow.Author.Needs.{needs}
 use Rattle.rules.proofs.slots.Slots.timeout.Statement.{statement}
 use Rattle.rules.proofs.slots.Slots.timeout.Tie as tie
@@ -41,7 +41,7 @@ returns-4 c = λ m a p h. simp (c .with4 .ensures) (refuses h 8 refl (simp (h .i
 
 returns-5 : tie.Need-returns-5
 unfolding timeoutNo timedOut
-returns-5 c = λ m a p h. grants h (simp (h .inside, rw (h .slots) at (ne-eqb _ _ (c .before .before .before .before .before .before .before .before .if1 .left)), rw (h .slots) at (eq-eqb _ _ (c .before .before .before .before .before .if2 .left)), rw (h .slots) at (eq-eqb _ _ (c .before .before .before .if3 .left)), rw (h .slots) at (ne-eqb _ _ (c .if4 .left)))) (simp (h .slots, set-getD))
+returns-5 c = λ m a p h. grants h (simp (h .inside, rw (h .slots) at (ne-eqb _ _ (c .before .before .before .before .before .before .before .before .if1 .left)), rw (h .slots) at (eq-eqb _ _ (c .before .before .before .before .before .if2 .left)), rw (h .slots) at (eq-eqb _ _ (c .before .before .before .if3 .left)), rw (h .slots) at (ne-eqb _ _ (c .if4 .left)))) (simp (h .slots, set-getD, beside-view))
 
 pub timeout-spec : {M : Type 1} → statement M
 timeout-spec =

@@ -1,24 +1,26 @@
-// A step that doesn't look back: the slots that it is about are read, its rule is applied to them, and they are written.
+// One step: the slots that it is about are read, its rule is applied to them, and they are written.
 ghost use mathlib.Core.Bool.{false};
 ghost use mathlib.Core.Path.{_≡_};
-ghost use Rattle.machine.specs.Bounds.{Bounds};
-ghost use Rattle.rules.specs.About.{aboutOf};
-ghost use Rattle.rules.specs.Step.{ruleOf};
+ghost use Rattle.machine.specs.Broken.{brokenOf};
+ghost use Rattle.rules.specs.Step.{stepOf};
 use crate::Recorder;
 use crate::Step;
 use crate::about::about_of;
 use crate::about::actor_of;
+use crate::about::made_of;
 use crate::about::names_outside;
 use crate::about::store_of;
 use crate::about::view_of;
+use crate::past::look_back;
+use crate::past::no_past;
 use crate::slots::Slots;
 use machine::Answered;
 
 impl Recorder {
-    pub(crate) fn touch(self, s: Step) -> Answered
-        requires { ⌜ Bounds (self .machine) ⌝ }
-        requires { ⌜ aboutOf s .back ≡ false ⌝ }
-        ensures { λ r. ⌜ r ≡ ruleOf (self .machine) s ⌝ }
+    // The step, not tested for a broken value again: for the drain, which knows the machine to be unbroken.
+    pub fn step_unbroken(self, s: Step) -> Answered
+        requires { ⌜ brokenOf (self .machine) ≡ false ⌝ }
+        ensures { λ r. ⌜ r ≡ stepOf (self .machine) s ⌝ }
     {
         let mut m = self.machine;
         if names_outside(s, m.stores, m.actors, m.made) {
@@ -26,7 +28,7 @@ impl Recorder {
         }
         let b = about_of(s);
         let named = m.queues[b.actor as usize];
-        let v = view_of(b.acting, named.views[0], b.view);
+        let v = view_of(b.acting, b.making, m.made, named.views[0], b.view);
         let w = m.views[v];
         let e = m.entries[v];
         let a = actor_of(b.acting, b.actor, w.actor);
@@ -39,19 +41,29 @@ impl Recorder {
         let queue = m.queues[a];
         let message = m.messages[k];
         let repair = m.repairs[v];
+        let facing = m.views[o];
         let other = m.entries[o];
         let contents = m.contents[at];
         let links = m.links[sender];
+        let mut past = no_past();
+        if b.back {
+            let views = m.views;
+            past = look_back(views, m.made, b.actor, b.causes, w);
+        }
         let x = Slots {
             number: v,
             store: p as u8,
             home: m.homes[a],
             list: m.lists[a],
+            far: m.homes[b.other as usize],
+            past,
+            made: m.made,
             queue,
             message,
             view: w,
             repair,
             entry: e,
+            facing,
             other,
             up: m.up[p],
             records: m.records[at],
@@ -70,12 +82,15 @@ impl Recorder {
         let view = y.view;
         let repair = y.repair;
         let entry = y.entry;
+        let facing = y.facing;
         let other = y.other;
         let contents = y.contents;
         let links = y.links;
+        m.made = made_of(b.making, y.made, m.made);
         m.queues[a] = queue;
         m.messages[k] = message;
         m.views[v] = view;
+        m.views[o] = facing;
         m.repairs[v] = repair;
         m.entries[v] = entry;
         m.entries[o] = other;
