@@ -71,6 +71,7 @@ every-call =
       setup = λ u. only _;
       status = λ s. only _;
       step = λ m s. only _;
+      steps = λ m steps n. only _;
       run = λ book room. only _;
       buffer = λ book buffer. only _;
       drain = λ m. only _;

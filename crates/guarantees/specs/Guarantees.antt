@@ -15,6 +15,7 @@ use Rattle.machine.specs.declared.View.{View}
 use Rattle.machine.specs.declared.Setup.{Setup}
 use Rattle.machine.specs.declared.Status.{Status}
 use Rattle.rules.specs.Step.{stepOf}
+use Rattle.rules.specs.Steps.{manyOf}
 use Rattle.rules.specs.declared.Step.{Step}
 use Rattle.rules.specs.declared.Step.the-variants.{Send, Receive, PreCheck, SendRecord, Timeout, TakeRecord, TakeAck, PostCheck, TakeRepair, SendUpdate, TakeUpdate, TakeUack, Expire, Lose, Crash, Restart}
 use Rattle.runs.specs.Book.{setupRead}
@@ -144,7 +145,7 @@ Books = (book : List ℕ) (room : ℕ) → runOf book room .answer ≡ 0 → Boo
 
 -- 9. Every call answers: each public call is a proved function with no `requires`, so it ends for every input; and its promise,
 -- `result ≡ definition of the inputs`, leaves exactly one result. In order: Machine::broken, Machine::empty, Setup::setup,
--- status_number, Recorder::step (and the joint step_unbroken), run with its buffer, drain, walk.
+-- status_number, Recorder::step (and the joint step_unbroken), the joint steps_unbroken, run with its buffer, drain, walk.
 abbrev pub Determined : {A : Type 0} → A → Type 0
 Determined {A} d = (x y : A) → x ≡ d → y ≡ d → x ≡ y
 
@@ -154,6 +155,7 @@ pub record EveryCall : Type 0 where
   pub setup : (u : Setup) → Determined (setupOf u)
   pub status : (s : Status) → Determined (statusNumber s)
   pub step : (m : Machine) (s : Step) → Determined (stepOf m s)
+  pub steps : (m : Machine) (steps : List Step) (n : ℕ) → Determined (manyOf m steps n)
   pub run : (book : List ℕ) (room : ℕ) → Determined (runOf book room)
   pub buffer : (book buffer : List ℕ) → Determined (bufferOf book buffer)
   pub drain : (m : Machine) → Determined (drainOf m)
