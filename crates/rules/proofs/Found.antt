@@ -57,14 +57,11 @@ outside-refuses m (Lose what p k r) e = simp e
 outside-refuses m (Crash p) e = simp e
 outside-refuses m (Restart p) e = simp e
 
--- what a step looks back at, where it does and where it doesn't
-module _ (m : Machine) (b : About) (v : ℕ) {past : Past} where
-  pub looked-back : b .back ≡ true → past ≡ pastOf (withMade (withViews emptyMachine (m .views)) (m .made)) (b .actor) (b .causes) (view m v) → past ≡ pastAbout m b v
-  unfolding causesKnown
-  looked-back e same = same ∙ sym (ap (λ (t : Bool). pick t (pastOf m (b .actor) (b .causes) (view m v)) noPast) e)
-
-  pub not-looked : b .back ≡ false → past ≡ noPast → past ≡ pastAbout m b v
-  not-looked e same = same ∙ sym (ap (λ (t : Bool). pick t (pastOf m (b .actor) (b .causes) (view m v)) noPast) e)
+-- what a step looks back at, whether it does or not
+pub looked : (m : Machine) (b : About) (v : ℕ) {past : Past} (t : Bool) → b .back ≡ t
+    → past ≡ pick t (pastOf (withMade (withViews emptyMachine (m .views)) (m .made)) (b .actor) (b .causes) (view m v)) noPast → past ≡ pastAbout m b v
+unfolding causesKnown
+looked m b v t e same = same ∙ sym (ap (λ (u : Bool). pick u (pastOf m (b .actor) (b .causes) (view m v)) noPast) e)
 
 -- how the code finds them, one after another, and what it looks back at
 pub record Found (m : Machine) (s : Step) (b : About) (a v p : ℕ) (past : Past) : Type 0 where

@@ -11,7 +11,7 @@ use lib.ListN.{getD}
 use Rattle.machine.proofs.Laws.{bounds}
 use Rattle.rules.specs.About.{outsideOf}
 use Rattle.rules.specs.declared.Step.the-variants.{Send}
-use Rattle.rules.proofs.Found.{Found, outside-refuses, looked-back, not-looked, stands, written, fits}
+use Rattle.rules.proofs.Found.{Found, outside-refuses, looked, stands, written, fits}
 use Rattle.rules.proofs.Inside.{actor-low, view-about-low, store-low, other-low}
 use Rattle.rules.proofs.Taking.{Taking, take-start, take-step, take-end}
 use Rattle.rules.proofs.Recorder.steps_unbroken.Statement.{statement}
@@ -67,7 +67,7 @@ found c =
       viewed = view-at c .view-of .ensures .0;
       acted = actor-at c .actor-of .ensures .0;
       stored = store-at c .store-of .ensures .0;
-      looked = ⊎-elim (λ w. looked-back (turn-at c .loop .m) (about-at c .about-of .result) (view-at c .view-of .result) (w .0 .taken) (w .3 ∙ w .2 .ensures)) (λ w. not-looked (turn-at c .loop .m) (about-at c .about-of .result) (view-at c .view-of .result) (w .0 .left) (w .1 ∙ c .before .no-past .ensures)) (c .if2 .came);
+      looked = ⊎-elim (λ w. looked (turn-at c .loop .m) (about-at c .about-of .result) (view-at c .view-of .result) true (w .0 .taken) (w .3 ∙ w .2 .ensures)) (λ w. looked (turn-at c .loop .m) (about-at c .about-of .result) (view-at c .view-of .result) false (w .0 .left) (w .1 ∙ c .before .no-past .ensures)) (c .if2 .came);
     }
 
 -- where what the rule gives is written, each of them is within its array
