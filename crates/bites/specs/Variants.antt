@@ -5,51 +5,51 @@ use mathlib.Core.Bool.{true, _&&_, not}
 use mathlib.Core.List.{List, [], _∷_, _++_}
 use lib.Dec.{eqb}
 use lib.ListN.{getD}
-use Rattle.machine.specs.Words.{pick, bit}
-use Rattle.machine.specs.Slots.{number, view, viewlink}
-use Rattle.machine.specs.Setup.{answered}
-use Rattle.machine.specs.Broken.{brokenOf}
-use Rattle.machine.specs.Closed.{closedOf}
-use Rattle.machine.specs.declared.Machine.{Machine}
-use Rattle.machine.specs.declared.Setup.{Setup}
-use Rattle.machine.specs.declared.Answered.{Answered}
-use Rattle.rules.specs.Rule.{decided}
-use Rattle.rules.specs.Send.{sent}
-use Rattle.rules.specs.Receive.{receivedOf}
-use Rattle.rules.specs.PreCheck.{preChecked}
-use Rattle.rules.specs.SendRecord.{recordSent}
-use Rattle.rules.specs.Timeout.{timedOut}
-use Rattle.rules.specs.TakeRecord.{recordTaken}
-use Rattle.rules.specs.TakeAck.{ackTaken}
-use Rattle.rules.specs.PostCheck.{postChecked}
-use Rattle.rules.specs.TakeRepair.{repairTaken}
-use Rattle.rules.specs.SendUpdate.{updateSent}
-use Rattle.rules.specs.TakeUpdate.{updateTaken}
-use Rattle.rules.specs.TakeUack.{uackTaken}
-use Rattle.rules.specs.Expire.{expired}
-use Rattle.rules.specs.Lose.{lost}
-use Rattle.rules.specs.Crash.{crashed}
-use Rattle.rules.specs.Restart.{restarted}
-use Rattle.rules.specs.Step.{numberOf}
-use Rattle.rules.specs.declared.Step.{Step}
-use Rattle.rules.specs.declared.Step.the-variants.{Send, Receive, PreCheck, SendRecord, Timeout, TakeRecord, TakeAck, PostCheck, TakeRepair, SendUpdate, TakeUpdate, TakeUack, Expire, Lose, Crash, Restart}
-use Rattle.runs.specs.Run.{freshOf}
+use Rattle.protocol.specs.Words.{pick, bit}
+use Rattle.protocol.specs.Slots.{number, view, viewlink}
+use Rattle.protocol.specs.Setup.{answered}
+use Rattle.protocol.specs.Broken.{brokenOf}
+use Rattle.protocol.specs.Closed.{closedOf}
+use Rattle.protocol.specs.declared.State.{State}
+use Rattle.protocol.specs.declared.Setup.{Setup}
+use Rattle.protocol.specs.Outcome.{Outcome}
+use Rattle.protocol.specs.Rule.{decided}
+use Rattle.protocol.specs.Send.{sent}
+use Rattle.protocol.specs.Receive.{receivedOf}
+use Rattle.protocol.specs.PreCheck.{preChecked}
+use Rattle.protocol.specs.SendRecord.{recordSent}
+use Rattle.protocol.specs.Timeout.{timedOut}
+use Rattle.protocol.specs.TakeRecord.{recordTaken}
+use Rattle.protocol.specs.TakeAck.{ackTaken}
+use Rattle.protocol.specs.PostCheck.{postChecked}
+use Rattle.protocol.specs.TakeRepair.{repairTaken}
+use Rattle.protocol.specs.SendUpdate.{updateSent}
+use Rattle.protocol.specs.TakeUpdate.{updateTaken}
+use Rattle.protocol.specs.TakeUack.{uackTaken}
+use Rattle.protocol.specs.Expire.{expired}
+use Rattle.protocol.specs.Lose.{lost}
+use Rattle.protocol.specs.Crash.{crashed}
+use Rattle.protocol.specs.Restart.{restarted}
+use Rattle.protocol.specs.Step.{numberOf}
+use Rattle.protocol.specs.declared.Step.{Step}
+use Rattle.protocol.specs.declared.Step.the-variants.{Send, Receive, PreCheck, SendRecord, Timeout, TakeRecord, TakeAck, PostCheck, TakeRepair, SendUpdate, TakeUpdate, TakeUack, Expire, Lose, Crash, Restart}
+use Rattle.protocol.specs.Run.{freshOf}
 use Rattle.guarantees.specs.Acknowledged.{Legal}
 
 -- the five rules that are easily got wrong, each as the machine that it gives; the other eleven, and what refuses a step, stay
 pub record Rules : Type 0 where
-  pub preCheck : (m : Machine) (actor : ℕ) → Machine
-  pub takeRecord : (m : Machine) (store key role : ℕ) → Machine
-  pub takeAck : (m : Machine) (store key role : ℕ) → Machine
-  pub takeRepair : (m : Machine) (key role : ℕ) → Machine
-  pub takeUack : (m : Machine) (store key role : ℕ) → Machine
+  pub preCheck : (m : State) (actor : ℕ) → State
+  pub takeRecord : (m : State) (store key role : ℕ) → State
+  pub takeAck : (m : State) (store key role : ℕ) → State
+  pub takeRepair : (m : State) (key role : ℕ) → State
+  pub takeUack : (m : State) (store key role : ℕ) → State
 
 -- document 01's
 abbrev pub right : Rules
 right = record { preCheck = preChecked; takeRecord = recordTaken; takeAck = ackTaken; takeRepair = repairTaken; takeUack = uackTaken }
 
 -- as afterOf
-abbrev pub afterBy : Rules → Machine → Step → Machine
+abbrev pub afterBy : Rules → State → Step → State
 afterBy rules m (Send from to own word causes) = sent m from to own word causes
 afterBy rules m (Receive k) = receivedOf m k
 afterBy rules m (PreCheck a) = rules .preCheck m a
@@ -68,19 +68,19 @@ afterBy rules m (Crash p) = crashed m p
 afterBy rules m (Restart p) = restarted m p
 
 -- as stepOf
-unfoldable pub stepBy : Rules → Machine → Step → Answered
+unfoldable pub stepBy : Rules → State → Step → Outcome
 stepBy rules m s = pick (brokenOf m) (answered 1 m) (decided (numberOf m s) m (afterBy rules m s))
 
 -- as ran
-unfoldable pub ranBy : Rules → Machine → List Step → Machine
+unfoldable pub ranBy : Rules → State → List Step → State
 ranBy rules m [] = m
-ranBy rules m (step ∷ steps) = ranBy rules (stepBy rules m step .machine) steps
+ranBy rules m (step ∷ steps) = ranBy rules (stepBy rules m step .state) steps
 
-abbrev pub runBy : Rules → Setup → List Step → Machine
+abbrev pub runBy : Rules → Setup → List Step → State
 runBy rules u steps = ranBy rules (freshOf u) steps
 
 -- as accepted: the store of this step, if it is a step 7 that moved the view to phase 4
-unfoldable pub acceptedInto : Machine → Machine → Step → ℕ → List ℕ
+unfoldable pub acceptedInto : State → State → Step → ℕ → List ℕ
 acceptedInto m next (TakeAck p k r) v =
     let now = view next v .phase in
     pick (eqb (number k r) v && not (eqb (view m v .phase) 4) && eqb now 4) (p ∷ []) []
@@ -100,13 +100,13 @@ acceptedInto m next (Lose what p k r) v = []
 acceptedInto m next (Crash p) v = []
 acceptedInto m next (Restart p) v = []
 
-abbrev pub acceptedBy : Rules → Machine → Step → ℕ → List ℕ
-acceptedBy rules m s v = acceptedInto m (stepBy rules m s .machine) s v
+abbrev pub acceptedBy : Rules → State → Step → ℕ → List ℕ
+acceptedBy rules m s v = acceptedInto m (stepBy rules m s .state) s v
 
 -- as acknowledged, and AckedBy
-unfoldable pub acknowledgedBy : Rules → Machine → List Step → ℕ → List ℕ
+unfoldable pub acknowledgedBy : Rules → State → List Step → ℕ → List ℕ
 acknowledgedBy rules m [] v = []
-acknowledgedBy rules m (step ∷ steps) v = acceptedBy rules m step v ++ acknowledgedBy rules (stepBy rules m step .machine) steps v
+acknowledgedBy rules m (step ∷ steps) v = acceptedBy rules m step v ++ acknowledgedBy rules (stepBy rules m step .state) steps v
 
 abbrev pub AckedIn : Rules → Setup → List Step → ℕ → ℕ → Type 0
 AckedIn rules u steps v p = acknowledgedBy rules (freshOf u) steps v ≡ p ∷ []

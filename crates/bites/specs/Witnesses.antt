@@ -3,13 +3,13 @@ use Prim.Native.Nat.{ℕ, _≤_}
 use mathlib.Core.Path.{_≡_}
 use mathlib.Core.Bool.{true, false}
 use mathlib.Core.List.{List, [], _∷_, _++_}
-use Rattle.machine.specs.Words.{bit}
-use Rattle.machine.specs.Slots.{number, isUp, view}
-use Rattle.machine.specs.Closed.{closedOf}
-use Rattle.rules.specs.declared.Step.{Step}
-use Rattle.rules.specs.declared.Step.the-variants.{Send, Receive, SendRecord, Timeout, TakeRecord, TakeAck, Lose, Crash, Restart}
-use Rattle.runs.specs.Run.{freshOf, runOf}
-use Rattle.runs.specs.Drain.{allUp}
+use Rattle.protocol.specs.Words.{bit}
+use Rattle.protocol.specs.Slots.{number, isUp, view}
+use Rattle.protocol.specs.Closed.{closedOf}
+use Rattle.protocol.specs.declared.Step.{Step}
+use Rattle.protocol.specs.declared.Step.the-variants.{Send, Receive, SendRecord, Timeout, TakeRecord, TakeAck, Lose, Crash, Restart}
+use Rattle.protocol.specs.Run.{freshOf, runOf}
+use Rattle.protocol.specs.Drain.{allUp}
 use Rattle.reads.specs.Run.{example}
 use Rattle.drains.specs.Drains.{stepsOf}
 use Rattle.guarantees.specs.Acknowledged.{Legal, after, accepted, acknowledged, AckedBy}

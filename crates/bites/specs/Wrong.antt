@@ -5,25 +5,25 @@ use mathlib.Core.Logic.{_≢_}
 use mathlib.Core.Bool.{true}
 use mathlib.Core.List.{List, [], _∷_, _++_}
 use lib.ListN.{getD}
-use Rattle.machine.specs.Words.{bit}
-use Rattle.machine.specs.Slots.{number, view, entry, viewlink}
-use Rattle.machine.specs.Writes.{withView, withEntry, withViewlink}
-use Rattle.machine.specs.Closed.{closedOf}
-use Rattle.machine.specs.declared.Machine.{Machine}
-use Rattle.rules.specs.Rule.{head, headView, phased}
-use Rattle.rules.specs.PreCheck.{preChecked}
-use Rattle.rules.specs.TakeRecord.{recordTaken}
-use Rattle.rules.specs.TakeAck.{ackedView, ackTaken}
-use Rattle.rules.specs.TakeRepair.{repairTaken}
-use Rattle.rules.specs.TakeUack.{finishedEntry, uackTaken}
-use Rattle.rules.specs.declared.Step.{Step}
-use Rattle.rules.specs.declared.Step.the-variants.{Receive, SendRecord, Timeout, TakeRecord, TakeAck, PostCheck, TakeRepair, SendUpdate, TakeUpdate, TakeUack, Lose}
+use Rattle.protocol.specs.Words.{bit}
+use Rattle.protocol.specs.Slots.{number, view, entry, viewlink}
+use Rattle.protocol.specs.Writes.{withView, withEntry, withViewlink}
+use Rattle.protocol.specs.Closed.{closedOf}
+use Rattle.protocol.specs.declared.State.{State}
+use Rattle.protocol.specs.Rule.{head, headView, phased}
+use Rattle.protocol.specs.PreCheck.{preChecked}
+use Rattle.protocol.specs.TakeRecord.{recordTaken}
+use Rattle.protocol.specs.TakeAck.{ackedView, ackTaken}
+use Rattle.protocol.specs.TakeRepair.{repairTaken}
+use Rattle.protocol.specs.TakeUack.{finishedEntry, uackTaken}
+use Rattle.protocol.specs.declared.Step.{Step}
+use Rattle.protocol.specs.declared.Step.the-variants.{Receive, SendRecord, Timeout, TakeRecord, TakeAck, PostCheck, TakeRepair, SendUpdate, TakeUpdate, TakeUack, Lose}
 use Rattle.bites.specs.Setting.{M, S, sends, moves, settles, updates}
 use Rattle.bites.specs.Witnesses.{movedReceipt}
 use Rattle.bites.specs.Variants.{Rules, right, runBy, acceptedBy, AckedIn, CauseLinksBy, ViewLinksBy}
 
 -- 1. Letting a late record overwrite a viewlink that an update wrote first: the viewlink is written, whatever was there.
-unfoldable pub overwritten : Machine → ℕ → ℕ → ℕ → Machine
+unfoldable pub overwritten : State → ℕ → ℕ → ℕ → State
 overwritten m p k r = withViewlink (recordTaken m p k r) p (number k r) (view m (number k r) .viewlink + 1)
 
 abbrev pub overwriting : Rules
@@ -34,7 +34,7 @@ abbrev pub lateRecord : List Step
 lateRecord = S ∷ Receive 0 ∷ sends 0 ++ moves 0 0 0 0 2 ++ settles 0 0 0 2 ++ TakeRepair 0 0 ∷ updates 0 0 1 ++ sends 1 ++ settles 1 0 1 1
 
 -- 2. Finishing an update on a uack from a destination that has since been replaced: any uack counts as the destination's.
-unfoldable pub finishedEarly : Machine → ℕ → ℕ → ℕ → Machine
+unfoldable pub finishedEarly : State → ℕ → ℕ → ℕ → State
 finishedEarly m p k r = let e = entry m (number k r) in withEntry (uackTaken m p k r) (number k r) (finishedEntry (e .destination) e)
 
 abbrev pub finishing : Rules
@@ -48,7 +48,7 @@ replacedDestination =
     ++ moves 1 0 1 1 2 ++ settles 1 0 1 2 ++ TakeRepair 0 1 ∷ SendUpdate 0 0 ∷ TakeUack 1 0 0 ∷ Lose 2 2 0 0 ∷ updates 0 1 2
 
 -- 3. On the second repair, redirecting one entry and leaving the other.
-unfoldable pub oneRedirected : Machine → ℕ → ℕ → Machine
+unfoldable pub oneRedirected : State → ℕ → ℕ → State
 oneRedirected m k r = let o = number k (1 - r) in withEntry (repairTaken m k r) o (entry m o)
 
 abbrev pub leaving : Rules
@@ -61,7 +61,7 @@ secondRepair =
     ++ TakeRepair 0 0 ∷ TakeRepair 0 1 ∷ updates 0 0 1 ++ updates 0 1 2
 
 -- 4. Setting cause links at sending only, though the receipt moved stores later: the pre-check leaves them.
-unfoldable pub unchecked : Machine → ℕ → Machine
+unfoldable pub unchecked : State → ℕ → State
 unchecked m a = withView m (head m a) (phased 2 (headView m a))
 
 abbrev pub sendingOnly : Rules
@@ -70,7 +70,7 @@ sendingOnly = record { preCheck = unchecked; takeRecord = recordTaken; takeAck =
 -- Its run is `movedReceipt`: actor 1 sends an effect of interaction 0, and then its receipt of 0 moves from store 1 to store 2.
 
 -- 5. Accepting an ack from a store that was left: any ack counts as the current store's.
-unfoldable pub acceptedLate : Machine → ℕ → ℕ → ℕ → Machine
+unfoldable pub acceptedLate : State → ℕ → ℕ → ℕ → State
 acceptedLate m p k r = let v = number k r in withView (ackTaken m p k r) v (ackedView m (view m v .store) v)
 
 abbrev pub accepting : Rules

@@ -1,10 +1,10 @@
 // The most steps a book may have, the order of the numbers 10, 11 and 12, and what stays of a lent buffer.
 ghost use Prim.Native.Nat.{_≤_};
 use crate::print;
-use machine::Machine;
+use protocol::State;
 
 // Steps, steps taken, and the counts of the machine.
-fn counts(m: Machine, steps: u16, taken: u16) {
+fn counts(m: State, steps: u16, taken: u16) {
     print::text(b", steps");
     print::medium(steps);
     print::text(b", taken");
@@ -29,7 +29,7 @@ fn many(name: &[u8], low: u8, high: u8, length: usize)
     b[7] = high;
     let mut a = [99u8; 4100];
     let r = runs::run(&b[..length], &mut a);
-    let m = r.machine;
+    let m = r.state;
     print::text(name);
     print::small(r.answer);
     counts(m, r.steps, r.taken);
@@ -53,7 +53,7 @@ fn lent(name: &[u8], book: &[u8], bytes: usize)
 {
     let mut a = [99u8; 4];
     let r = runs::run(book, &mut a[..bytes]);
-    let m = r.machine;
+    let m = r.state;
     print::text(name);
     print::small(r.answer);
     counts(m, r.steps, r.taken);

@@ -1,7 +1,7 @@
 // Document 01's example book, and W1 to W4: the run, the drain, and where the views of interaction 0 are.
 ghost use Prim.Native.Nat.{_<_};
 use crate::print;
-use machine::Machine;
+use protocol::State;
 
 // Store 0's viewlinks stand first, then store 1's: 0 for none, and p + 1 for store p.
 fn held(viewlinks: [u8; 256], store: u8, view: usize) -> u8
@@ -24,7 +24,7 @@ fn link(held: u8) {
 }
 
 // The current store of a view, and the viewlink that this store holds for it.
-fn place(name: &[u8], m: Machine, v: usize)
+fn place(name: &[u8], m: State, v: usize)
     requires { ⌜ v < 32 ⌝ }
 {
     let w = m.views[v];
@@ -35,14 +35,14 @@ fn place(name: &[u8], m: Machine, v: usize)
     print::text(b"\n");
 }
 
-fn places(m: Machine) {
+fn places(m: State) {
     if m.made != 0 {
         place(b"  sender at", m, 0);
         place(b"  receiver at", m, 1);
     }
 }
 
-fn ran(name: &[u8], book: &[u8]) -> Machine {
+fn ran(name: &[u8], book: &[u8]) -> State {
     let mut a = [0u8; 16];
     let r = runs::run(book, &mut a);
     print::text(name);
@@ -53,18 +53,18 @@ fn ran(name: &[u8], book: &[u8]) -> Machine {
     print::medium(r.taken);
     print::answers(a, r.steps);
     print::text(b"\n");
-    let m = r.machine;
+    let m = r.state;
     m
 }
 
-fn drained(m: Machine) -> Machine {
-    let d = runs::drain(m);
+fn drained(m: State) -> State {
+    let d = drain::drain(m);
     print::text(b"  drain");
     print::small(d.answer);
     print::text(b", count");
     print::medium(d.count);
     print::text(b"\n");
-    let after = d.machine;
+    let after = d.state;
     after
 }
 

@@ -9,30 +9,30 @@ use lib.Dec.{eqb, ltb}
 use lib.ListN.{length}
 use lib.Seq.{getD-set-same, getD-set-other}
 use borrow.Author.Tests.{eq-eqb, ne-eqb, lt-leb, ltb-false}
-use Rattle.machine.specs.Words.{pick, bit}
-use Rattle.machine.specs.Slots.{number, place, noView, noRepair, isUp, list, queue, view, repair, recordCopies, ackCopies}
-use Rattle.machine.specs.Writes.{withView, withRecordCopies, withAckCopies}
-use Rattle.machine.specs.Unbroken.{Unbroken}
-use Rattle.machine.specs.declared.Machine.{Machine}
-use Rattle.machine.specs.declared.View.{View}
-use Rattle.machine.specs.declared.Repair.{Repair}
-use Rattle.rules.specs.Rule.{head, phased, more}
-use Rattle.rules.specs.Receive.{receiveNo, receivedOf, receivedView}
-use Rattle.rules.specs.PreCheck.{preCheckNo, preChecked, checkedView}
-use Rattle.rules.specs.SendRecord.{sendRecordNo, recordSent}
-use Rattle.rules.specs.Timeout.{timeoutNo, timedOut, movedView}
-use Rattle.rules.specs.TakeRecord.{takeRecordNo, recordTaken}
-use Rattle.rules.specs.TakeAck.{takeAckNo, ackTaken}
-use Rattle.rules.specs.PostCheck.{postCheckNo, postChecked, askedRepair}
-use Rattle.rules.specs.Step.{numberOf, afterOf}
-use Rattle.rules.specs.declared.Step.{Step}
-use Rattle.rules.specs.declared.Step.the-variants.{Receive, PreCheck, SendRecord, Timeout, TakeRecord, TakeAck, PostCheck}
-use Rattle.runs.specs.Drain.{keyOf, roleOf}
+use Rattle.protocol.specs.Words.{pick, bit}
+use Rattle.protocol.specs.Slots.{number, place, noView, noRepair, isUp, list, queue, view, repair, recordCopies, ackCopies}
+use Rattle.protocol.specs.Writes.{withView, withRecordCopies, withAckCopies}
+use Rattle.unbroken.specs.Unbroken.{Unbroken}
+use Rattle.protocol.specs.declared.State.{State}
+use Rattle.protocol.specs.declared.View.{View}
+use Rattle.protocol.specs.declared.Repair.{Repair}
+use Rattle.protocol.specs.Rule.{head, phased, more}
+use Rattle.protocol.specs.Receive.{receiveNo, receivedOf, receivedView}
+use Rattle.protocol.specs.PreCheck.{preCheckNo, preChecked, checkedView}
+use Rattle.protocol.specs.SendRecord.{sendRecordNo, recordSent}
+use Rattle.protocol.specs.Timeout.{timeoutNo, timedOut, movedView}
+use Rattle.protocol.specs.TakeRecord.{takeRecordNo, recordTaken}
+use Rattle.protocol.specs.TakeAck.{takeAckNo, ackTaken}
+use Rattle.protocol.specs.PostCheck.{postCheckNo, postChecked, askedRepair}
+use Rattle.protocol.specs.Step.{numberOf, afterOf}
+use Rattle.protocol.specs.declared.Step.{Step}
+use Rattle.protocol.specs.declared.Step.the-variants.{Receive, PreCheck, SendRecord, Timeout, TakeRecord, TakeAck, PostCheck}
+use Rattle.protocol.specs.Drain.{keyOf, roleOf}
 use Rattle.drains.proofs.StepsLeft.{Seen, seen, receive-lowers, preCheck-lowers, sendRecord-lowers, timeout-lowers, takeRecord-lowers, takeAck-lowers, postCheck-lowers}
 use Rattle.drains.proofs.Total.{seenOf, total, total-falls, opposite}
 
 -- a step of the drain that is taken and leaves one step less, with the stores as they were
-pub record Lowers (m : Machine) (s : Step) : Type 0 where
+pub record Lowers (m : State) (s : Step) : Type 0 where
   pub taken : numberOf m s ≡ 0
   pub lower : total (afterOf m s) < total m
   pub up : afterOf m s .up ≡ m .up
@@ -44,7 +44,7 @@ pub same-number : (v : ℕ) → number (keyOf v) (roleOf v) ≡ v
 same-number v = omega arith
 
 -- a view that is made has a slot
-pub in32 : (m : Machine) → Unbroken m → {u : ℕ} → u < m .made * 2 → u < 32
+pub in32 : (m : State) → Unbroken m → {u : ℕ} → u < m .made * 2 → u < 32
 in32 m w l = omega (arith, w .made16)
 
 -- where copies go, there are some
@@ -67,7 +67,7 @@ asked-flies r x e = go (x .changed)
 pub place-other : (p v q u : ℕ) → v < 32 → u < 32 → u ≢ v → place q u ≢ place p v
 place-other p v q u hv hu n e = n (omega arith)
 
-module _ (m : Machine) (w : Unbroken m) (v : ℕ) (hv : v < m .made * 2) where
+module _ (m : State) (w : Unbroken m) (v : ℕ) (hv : v < m .made * 2) where
   abbrev me : Seen
   me = seenOf m v
 
@@ -121,7 +121,7 @@ module _ (m : Machine) (w : Unbroken m) (v : ℕ) (hv : v < m .made * 2) where
         )
 
 -- step 2
-pub receive-good : (m : Machine) → Unbroken m → (k : ℕ) → k < m .made → view m (number k 1) .phase ≡ 0 → Lowers m (Receive k)
+pub receive-good : (m : State) → Unbroken m → (k : ℕ) → k < m .made → view m (number k 1) .phase ≡ 0 → Lowers m (Receive k)
 unfolding receiveNo receivedOf seenOf
 receive-good m w k hk h =
     let v = number k 1 in
@@ -139,7 +139,7 @@ receive-good m w k hk h =
     }
 
 -- the steps of the head of a queue
-module _ (m : Machine) (w : Unbroken m) (a : ℕ) (ha : a < m .actors) (some : queue m a .len ≢ 0) (hv : head m a < m .made * 2) where
+module _ (m : State) (w : Unbroken m) (a : ℕ) (ha : a < m .actors) (some : queue m a .len ≢ 0) (hv : head m a < m .made * 2) where
   abbrev v : ℕ
   v = head m a
 
@@ -238,9 +238,9 @@ module _ (m : Machine) (w : Unbroken m) (a : ℕ) (ha : a < m .actors) (some : q
             taken = rw (lt-leb (m .stores) (view m v .store) (inStores (omega arith)), lt-leb (m .made) (keyOf v) (omega arith), lt-leb 2 (roleOf v) (omega arith), same-number v, there);
             lower = rw e (total-falls m (withAckCopies (withView m v x) (x .store) v c) refl v hv _ _ before (seen-ack m w v hv x c at) (ack-far m w v hv x c at)
                 (takeAck-lowers _ (s .repair) (s .status) (s .uack) (s .update) (s .changed) (s .sent) _));
-            up = ap (λ (n : Machine). n .up) e;
-            stores = ap (λ (n : Machine). n .stores) e;
-            made = ap (λ (n : Machine). n .made) e;
+            up = ap (λ (n : State). n .up) e;
+            stores = ap (λ (n : State). n .stores) e;
+            made = ap (λ (n : State). n .made) e;
           }
 
       pub takeRecord-good : isUp m (view m v .store) ≡ true → eqb (ackCopies m (view m v .store) v) 0 ≡ true → eqb (recordCopies m (view m v .store) v) 0 ≡ false

@@ -10,35 +10,35 @@ use native.Mathlib.Decide.{decLt}
 use lib.Dec.{eqb}
 use lib.ListN.{getD, set, length-set}
 use lib.Seq.{getD-set-same, getD-set-other}
-use Rattle.machine.specs.Words.{pick, bit, one, times}
-use Rattle.machine.specs.Slots.{number, queue, standing, view, home, noView, noQueue}
-use Rattle.machine.specs.Writes.{withRecordCopies, withAckCopies, withUpdateCopies, withUackCopies}
-use Rattle.machine.specs.Broken.{brokenOf}
-use Rattle.machine.specs.Unbroken.{Unbroken}
-use Rattle.machine.specs.declared.Machine.{Machine}
-use Rattle.machine.specs.declared.View.{View}
-use Rattle.machine.proofs.Laws.{unbroken, bounds}
-use Rattle.machine.proofs.Laws.Every.{table-at}
-use Rattle.rules.specs.Rule.{head}
-use Rattle.rules.specs.Send.{sendNo, sent, sentView, awaitedView, joined, homeLink, received}
-use Rattle.rules.specs.Receive.{receivedOf}
-use Rattle.rules.specs.PreCheck.{preChecked}
-use Rattle.rules.specs.SendRecord.{recordSent}
-use Rattle.rules.specs.Timeout.{timedOut}
-use Rattle.rules.specs.TakeRecord.{recordTaken}
-use Rattle.rules.specs.TakeAck.{ackTaken}
-use Rattle.rules.specs.PostCheck.{postChecked}
-use Rattle.rules.specs.TakeRepair.{repairTaken}
-use Rattle.rules.specs.SendUpdate.{updateSent}
-use Rattle.rules.specs.TakeUpdate.{updateTaken}
-use Rattle.rules.specs.TakeUack.{uackTaken}
-use Rattle.rules.specs.Expire.{expired}
-use Rattle.rules.specs.Lose.{lost, copies}
-use Rattle.rules.specs.Crash.{crashed}
-use Rattle.rules.specs.Restart.{restarted}
-use Rattle.rules.specs.Step.{numberOf, afterOf}
-use Rattle.rules.specs.declared.Step.{Step}
-use Rattle.rules.specs.declared.Step.the-variants.{Send, Receive, PreCheck, SendRecord, Timeout, TakeRecord, TakeAck, PostCheck, TakeRepair, SendUpdate, TakeUpdate, TakeUack, Expire, Lose, Crash, Restart}
+use Rattle.protocol.specs.Words.{pick, bit, one, times}
+use Rattle.protocol.specs.Slots.{number, queue, standing, view, home, noView, noQueue}
+use Rattle.protocol.specs.Writes.{withRecordCopies, withAckCopies, withUpdateCopies, withUackCopies}
+use Rattle.protocol.specs.Broken.{brokenOf}
+use Rattle.unbroken.specs.Unbroken.{Unbroken}
+use Rattle.protocol.specs.declared.State.{State}
+use Rattle.protocol.specs.declared.View.{View}
+use Rattle.unbroken.proofs.Laws.{unbroken, bounds}
+use Rattle.unbroken.proofs.Laws.Every.{table-at}
+use Rattle.protocol.specs.Rule.{head}
+use Rattle.protocol.specs.Send.{sendNo, sent, sentView, awaitedView, joined, homeLink, received}
+use Rattle.protocol.specs.Receive.{receivedOf}
+use Rattle.protocol.specs.PreCheck.{preChecked}
+use Rattle.protocol.specs.SendRecord.{recordSent}
+use Rattle.protocol.specs.Timeout.{timedOut}
+use Rattle.protocol.specs.TakeRecord.{recordTaken}
+use Rattle.protocol.specs.TakeAck.{ackTaken}
+use Rattle.protocol.specs.PostCheck.{postChecked}
+use Rattle.protocol.specs.TakeRepair.{repairTaken}
+use Rattle.protocol.specs.SendUpdate.{updateSent}
+use Rattle.protocol.specs.TakeUpdate.{updateTaken}
+use Rattle.protocol.specs.TakeUack.{uackTaken}
+use Rattle.protocol.specs.Expire.{expired}
+use Rattle.protocol.specs.Lose.{lost, copies}
+use Rattle.protocol.specs.Crash.{crashed}
+use Rattle.protocol.specs.Restart.{restarted}
+use Rattle.protocol.specs.Step.{numberOf, afterOf}
+use Rattle.protocol.specs.declared.Step.{Step}
+use Rattle.protocol.specs.declared.Step.the-variants.{Send, Receive, PreCheck, SendRecord, Timeout, TakeRecord, TakeAck, PostCheck, TakeRepair, SendUpdate, TakeUpdate, TakeUack, Expire, Lose, Crash, Restart}
 use Rattle.keeps.proofs.Conditions.{taken-when}
 use Rattle.guarantees.proofs.Whole.{Everywhere}
 use Rattle.guarantees.proofs.Heads.{actors8}
@@ -47,19 +47,19 @@ use Rattle.guarantees.proofs.Turns.{turns}
 use Rattle.guarantees.proofs.Queues.{Line, same, longer, shorter, lines, joined-stands}
 use Rattle.guarantees.proofs.Causes.{Cause, Ahead, ahead-last, ahead-longer, ahead-shorter, times-in, turn-actor, turn-viewlink, turn-causes, keep}
 
-unfoldable pub Causes : Machine → Type 0
+unfoldable pub Causes : State → Type 0
 Causes m =
     (k j : ℕ) → k < m .made → j < 16 → bit (view m (number k 0) .causes) j ≡ true
     → Cause (home m (view m (number k 0) .actor)) (standing (queue m (view m (number k 0) .actor))) (number j 1) (number k 0) j (view m (number k 0)) (view m (number j 1))
 
-pub record Reached (m : Machine) : Type 0 where
+pub record Reached (m : State) : Type 0 where
   pub fine : brokenOf m ≡ false
   pub everywhere : Everywhere m
   pub homes : Homes m
   pub causes : Causes m
 
 -- a rule leaves the homes, and makes at most one interaction
-frame : (m : Machine) (s : Step) → (afterOf m s .homes ≡ m .homes) × (m .made ≤ afterOf m s .made)
+frame : (m : State) (s : Step) → (afterOf m s .homes ≡ m .homes) × (m .made ≤ afterOf m s .made)
 unfolding sent receivedOf preChecked recordSent timedOut recordTaken ackTaken postChecked repairTaken updateSent updateTaken uackTaken expired lost crashed restarted
 frame m (Send from to own word causes) = (refl, omega arith)
 frame m (Receive k) = (refl, omega arith)
@@ -86,11 +86,11 @@ frame m (Crash p) = (refl, omega arith)
 frame m (Restart p) = (refl, omega arith)
 
 -- an interaction after a step is one from before it, or the one that the step sent
-pub data Key (m : Machine) (s : Step) (k : ℕ) : Type 0 where
+pub data Key (m : State) (s : Step) (k : ℕ) : Type 0 where
   old : k < m .made → Key m s k
   new : (from to own word causes : ℕ) → s ≡ Send from to own word causes → k ≡ m .made → Key m s k
 
-pub key : (m : Machine) (s : Step) (k : ℕ) → k < afterOf m s .made → Key m s k
+pub key : (m : State) (s : Step) (k : ℕ) → k < afterOf m s .made → Key m s k
 unfolding sent receivedOf preChecked recordSent timedOut recordTaken ackTaken postChecked repairTaken updateSent updateTaken uackTaken expired lost crashed restarted
 key m (Send from to own word causes) k h = elim (decLt k (m .made)) [ yes l ↦ old l | no n ↦ new from to own word causes refl (omega arith) ]
 key m (Receive i) k h = old h
@@ -115,7 +115,7 @@ key m (Lose what p i r) k h = go (copies m what p (number i r) - 1) (eqb what 0)
 key m (Crash p) k h = old h
 key m (Restart p) k h = old h
 
-module _ (m : Machine) (c : Reached m) where
+module _ (m : State) (c : Reached m) where
   u : Unbroken m
   u = unbroken m (c .fine)
 
@@ -182,7 +182,7 @@ module _ (m : Machine) (c : Reached m) where
       homes-at = c .homes
 
   -- whoever stands ahead still does, unless it was the head that settled
-  still-ahead : (n : Machine) (x y a : ℕ) → Line m n a → Ahead x y (standing (queue m a)) → view n x .phase ≢ 5 → Ahead x y (standing (queue n a))
+  still-ahead : (n : State) (x y a : ℕ) → Line m n a → Ahead x y (standing (queue m a)) → view n x .phase ≢ 5 → Ahead x y (standing (queue n a))
   still-ahead n x y a (same e) h f = subst (Ahead x y) (sym e) h
   still-ahead n x y a (longer v e) h f = subst (Ahead x y) (sym e) (ahead-longer x y v (standing (queue m a)) h)
   still-ahead n x y a (shorter e g) h f =
@@ -233,7 +233,7 @@ module _ (m : Machine) (c : Reached m) where
   unfolding Causes
   causes-kept s e k j h hj b = go (key m s k h)
     where
-      n : Machine
+      n : State
       n = afterOf m s
 
       causes-at : (i : ℕ) → i < m .made → bit (view m (number i 0) .causes) j ≡ true

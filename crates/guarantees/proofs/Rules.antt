@@ -9,35 +9,35 @@ use borrow.Author.Tests.{not-true, not-false, eqb-true, eqb-false}
 use lib.Dec.{eqb}
 use lib.ListN.{length, set, length-set}
 use lib.Seq.{getD-set-same, getD-set-other, set-getD}
-use Rattle.machine.specs.Words.{pick, one}
-use Rattle.machine.specs.Slots.{noEntry, noRepair, noMessage, recordCopies, number, place, statusNumber, home, view, repair, entry, message, contents, viewlink, ackCopies, updateCopies, uackCopies, noView}
-use Rattle.machine.specs.Writes.{withUpAt, withRecordCopies, withView, withRepair, withEntry, withEntries, withRecords, withLinks, withQueues, withAckCopies, withUpdateCopies, withUackCopies, withViewlink}
-use Rattle.machine.specs.EverySlot.{Sized}
-use Rattle.machine.specs.Unbroken.{Unbroken}
-use Rattle.machine.specs.declared.Machine.{Machine}
-use Rattle.machine.specs.declared.View.{View}
-use Rattle.machine.specs.declared.Repair.{Repair}
-use Rattle.machine.specs.declared.Entry.{Entry}
-use Rattle.machine.specs.declared.Status.the-variants.{ToSend, Waiting, Done}
-use Rattle.machine.specs.declared.Contents.{Contents}
-use Rattle.machine.specs.declared.Links.{Links}
-use Rattle.machine.specs.declared.Queue.{Queue}
-use Rattle.rules.specs.Rule.{head, headView, phased, more}
-use Rattle.rules.specs.Send.{sendNo, sent, sentView, awaitedView}
-use Rattle.rules.specs.Receive.{receiveNo, receivedOf, receivedView}
-use Rattle.rules.specs.PreCheck.{preCheckNo, preChecked, checkedView}
-use Rattle.rules.specs.SendRecord.{sendRecordNo, recordSent}
-use Rattle.rules.specs.Timeout.{timeoutNo, timedOut, movedView}
-use Rattle.rules.specs.TakeRecord.{takeRecordNo, recordTaken, writtenContents, writtenViewlink}
-use Rattle.rules.specs.TakeAck.{takeAckNo, ackTaken, accepts, isHead, ackedView}
-use Rattle.rules.specs.PostCheck.{postCheckNo, postChecked, askedRepair}
-use Rattle.rules.specs.TakeRepair.{takeRepairNo, repairTaken, entered, toSend}
-use Rattle.rules.specs.SendUpdate.{sendUpdateNo, updateSent, inStatus}
-use Rattle.rules.specs.TakeUpdate.{takeUpdateNo, updateTaken}
-use Rattle.rules.specs.TakeUack.{takeUackNo, uackTaken, finishedEntry}
-use Rattle.rules.specs.Expire.{expireNo, expired}
-use Rattle.rules.specs.Lose.{loseNo, lost}
-use Rattle.rules.specs.declared.Step.the-variants.{Send, Receive, PreCheck, SendRecord, Timeout, TakeRecord, TakeAck, PostCheck, TakeRepair, SendUpdate, TakeUpdate, TakeUack, Expire, Lose}
+use Rattle.protocol.specs.Words.{pick, one}
+use Rattle.protocol.specs.Slots.{noEntry, noRepair, noMessage, recordCopies, number, place, statusNumber, home, view, repair, entry, message, contents, viewlink, ackCopies, updateCopies, uackCopies, noView}
+use Rattle.protocol.specs.Writes.{withUpAt, withRecordCopies, withView, withRepair, withEntry, withEntries, withRecords, withLinks, withQueues, withAckCopies, withUpdateCopies, withUackCopies, withViewlink}
+use Rattle.unbroken.specs.EverySlot.{Sized}
+use Rattle.unbroken.specs.Unbroken.{Unbroken}
+use Rattle.protocol.specs.declared.State.{State}
+use Rattle.protocol.specs.declared.View.{View}
+use Rattle.protocol.specs.declared.Repair.{Repair}
+use Rattle.protocol.specs.declared.Entry.{Entry}
+use Rattle.protocol.specs.declared.Status.the-variants.{ToSend, Waiting, Done}
+use Rattle.protocol.specs.declared.Contents.{Contents}
+use Rattle.protocol.specs.declared.Links.{Links}
+use Rattle.protocol.specs.declared.Queue.{Queue}
+use Rattle.protocol.specs.Rule.{head, headView, phased, more}
+use Rattle.protocol.specs.Send.{sendNo, sent, sentView, awaitedView}
+use Rattle.protocol.specs.Receive.{receiveNo, receivedOf, receivedView}
+use Rattle.protocol.specs.PreCheck.{preCheckNo, preChecked, checkedView}
+use Rattle.protocol.specs.SendRecord.{sendRecordNo, recordSent}
+use Rattle.protocol.specs.Timeout.{timeoutNo, timedOut, movedView}
+use Rattle.protocol.specs.TakeRecord.{takeRecordNo, recordTaken, writtenContents, writtenViewlink}
+use Rattle.protocol.specs.TakeAck.{takeAckNo, ackTaken, accepts, isHead, ackedView}
+use Rattle.protocol.specs.PostCheck.{postCheckNo, postChecked, askedRepair}
+use Rattle.protocol.specs.TakeRepair.{takeRepairNo, repairTaken, entered, toSend}
+use Rattle.protocol.specs.SendUpdate.{sendUpdateNo, updateSent, inStatus}
+use Rattle.protocol.specs.TakeUpdate.{takeUpdateNo, updateTaken}
+use Rattle.protocol.specs.TakeUack.{takeUackNo, uackTaken, finishedEntry}
+use Rattle.protocol.specs.Expire.{expireNo, expired}
+use Rattle.protocol.specs.Lose.{loseNo, lost}
+use Rattle.protocol.specs.declared.Step.the-variants.{Send, Receive, PreCheck, SendRecord, Timeout, TakeRecord, TakeAck, PostCheck, TakeRepair, SendUpdate, TakeUpdate, TakeUack, Expire, Lose}
 use Rattle.keeps.proofs.Conditions.{taken-when}
 use Rattle.guarantees.proofs.Local
 use Rattle.guarantees.proofs.Local.{Job, Good}
@@ -61,24 +61,24 @@ one-false true e = let z : ⊥ = omega arith in absurd z
 one-false false e = refl
 
 -- the sender's viewlink is the receiver's home
-unfoldable pub Homes : Machine → Type 0
+unfoldable pub Homes : State → Type 0
 Homes m = (k : ℕ) → k < m .made → view m (number k 0) .viewlink ≡ home m (view m (number k 1) .actor)
 
-sized-view : (m : Machine) (v : ℕ) (w : View) → Sized m → Sized (withView m v w)
+sized-view : (m : State) (v : ℕ) (w : View) → Sized m → Sized (withView m v w)
 sized-view m v w z = search (length-set, z)
 
-sized-entry : (m : Machine) (v : ℕ) (e : Entry) → Sized m → Sized (withEntry m v e)
+sized-entry : (m : State) (v : ℕ) (e : Entry) → Sized m → Sized (withEntry m v e)
 sized-entry m v e z = search (length-set, z)
 
-sized-viewlink : (m : Machine) (p v l : ℕ) → Sized m → Sized (withViewlink m p v l)
+sized-viewlink : (m : State) (p v l : ℕ) → Sized m → Sized (withViewlink m p v l)
 sized-viewlink m p v l z = search (length-set, z)
 
 -- arrays that the record doesn't speak of
-same-slots : (m : Machine) (l : List ℕ) (ls : List Links) (qs : List Queue) → Everywhere m → Everywhere (withQueues (withLinks (withRecords m l) ls) qs)
+same-slots : (m : State) (l : List ℕ) (ls : List Links) (qs : List Queue) → Everywhere m → Everywhere (withQueues (withLinks (withRecords m l) ls) qs)
 unfolding Everywhere
 same-slots m l ls qs inv = inv
 
-module _ (m : Machine) (z : Sized m) (fits : m .made ≤ 16) (inv : Everywhere m) where
+module _ (m : State) (z : Sized m) (fits : m .made ≤ 16) (inv : Everywhere m) where
   -- the two halves at the interaction k
   pub here : (k r p : ℕ) → k < m .made → r < 2 → p < 8 → Here m k r p
   unfolding Everywhere
@@ -160,7 +160,7 @@ module _ (m : Machine) (z : Sized m) (fits : m .made ≤ 16) (inv : Everywhere m
         simp set-getD at (by-place k r hk hr p hp (contents m p (number k r)) (viewlink m p (number k r)) (ackCopies m p (number k r)) (updateCopies m p (number k r)) n
         (λ a b. Local.counted-me a b _ _ n (λ h. h) (a .updateEntry) f) (λ a b. Local.counted-ot a b _ _ n))
 
-module _ (m : Machine) (u : Unbroken m) (inv : Everywhere m) where
+module _ (m : State) (u : Unbroken m) (inv : Everywhere m) where
   z : Sized m
   z = u .sized
 

@@ -8,15 +8,15 @@ use borrow.Author.Tests.{eq-eqb, ne-eqb}
 use lib.Dec.{eqb}
 use lib.ListN.{set, length-set}
 use lib.Seq.{getD-set-same, getD-set-other}
-use Rattle.machine.specs.Words.{pick, one}
-use Rattle.machine.specs.Slots.{number, place, view, repair, entry, contents, viewlink, ackCopies, noView, noRepair, noEntry, noContents}
-use Rattle.machine.specs.Writes.{withView, withRepair, withEntry, withEntries, withAckCopies, withUpdateCopies, withUackCopies, withContentsAt, withViewlink}
-use Rattle.machine.specs.EverySlot.{Sized}
-use Rattle.machine.specs.declared.Machine.{Machine}
-use Rattle.machine.specs.declared.View.{View}
-use Rattle.machine.specs.declared.Repair.{Repair}
-use Rattle.machine.specs.declared.Entry.{Entry}
-use Rattle.machine.specs.declared.Contents.{Contents}
+use Rattle.protocol.specs.Words.{pick, one}
+use Rattle.protocol.specs.Slots.{number, place, view, repair, entry, contents, viewlink, ackCopies, noView, noRepair, noEntry, noContents}
+use Rattle.protocol.specs.Writes.{withView, withRepair, withEntry, withEntries, withAckCopies, withUpdateCopies, withUackCopies, withContentsAt, withViewlink}
+use Rattle.unbroken.specs.EverySlot.{Sized}
+use Rattle.protocol.specs.declared.State.{State}
+use Rattle.protocol.specs.declared.View.{View}
+use Rattle.protocol.specs.declared.Repair.{Repair}
+use Rattle.protocol.specs.declared.Entry.{Entry}
+use Rattle.protocol.specs.declared.Contents.{Contents}
 use Rattle.guarantees.proofs.Local.{Cell, countedCell, linkedCell}
 use Rattle.guarantees.proofs.Whole.{job, jobOf, cell, Touch}
 
@@ -37,11 +37,11 @@ at-stores P p x x′ y y′ h f q hq = go (ℕ-discrete q p)
     go (no n) = rw (ne-eqb q p n) (f q hq)
 
 -- a machine with all that stands at one place written anew
-abbrev pub withPlace : Machine → ℕ → ℕ → Contents → ℕ → ℕ → ℕ → ℕ → Machine
+abbrev pub withPlace : State → ℕ → ℕ → Contents → ℕ → ℕ → ℕ → ℕ → State
 withPlace m p v c l a u y =
     withContentsAt (withViewlink (withAckCopies (withUpdateCopies (withUackCopies m p v y) p v u) p v a) p v l) p v c
 
-module _ (m : Machine) (z : Sized m) (k r : ℕ) (hk : k < 16) (hr : r < 2) where
+module _ (m : State) (z : Sized m) (k r : ℕ) (hk : k < 16) (hr : r < 2) where
   -- the other role is another view
   pub other-view : number k (1 - r) ≢ number k r
   other-view e = let q : ⊥ = omega arith in q
@@ -145,7 +145,7 @@ module _ (m : Machine) (z : Sized m) (k r : ℕ) (hk : k < 16) (hr : r < 2) wher
 
   -- an update is taken: counts at the place of the view, the viewlink at that of the other
   module _ (p : ℕ) (hp : p < 8) (l n y : ℕ) where
-    abbrev updated : Machine
+    abbrev updated : State
     updated = withUackCopies (withViewlink (withUpdateCopies m p (number k r) n) p (number k (1 - r)) l) p (number k r) y
 
     apart : (q w u : ℕ) → w < 32 → u < 32 → w ≢ u → place q w ≢ place p u

@@ -10,39 +10,39 @@ use native.Mathlib.Decide.{ℕ-discrete}
 use borrow.Author.Tests.{eq-eqb, ne-eqb, lt-leb}
 use lib.Dec.{eqb}
 use lib.ListN.{getD}
-use Rattle.machine.specs.Words.{pick, bit, one}
-use Rattle.machine.specs.Slots.{number, view, contents, causeLinks, viewlink, home, queue, standing}
-use Rattle.machine.specs.Setup.{answered, freshWith}
-use Rattle.machine.specs.Closed.{closedOf}
-use Rattle.machine.specs.Broken.{brokenOf}
-use Rattle.machine.specs.Unbroken.{Unbroken}
-use Rattle.machine.specs.declared.Machine.{Machine}
-use Rattle.machine.specs.declared.View.{View}
-use Rattle.machine.specs.declared.Setup.{Setup}
-use Rattle.machine.specs.declared.Answered.{Answered}
-use Rattle.machine.proofs.Laws.{unbroken}
-use Rattle.rules.specs.Step.{numberOf, afterOf, ruleOf, stepOf}
-use Rattle.rules.specs.declared.Step.{Step}
-use Rattle.rules.specs.declared.Step.the-variants.{Send, Receive, PreCheck, SendRecord, Timeout, TakeRecord, TakeAck, PostCheck, TakeRepair, SendUpdate, TakeUpdate, TakeUack, Expire, Lose, Crash, Restart}
-use Rattle.runs.specs.Run.{ran, freshOf}
+use Rattle.protocol.specs.Words.{pick, bit, one}
+use Rattle.protocol.specs.Slots.{number, view, contents, causeLinks, viewlink, home, queue, standing}
+use Rattle.protocol.specs.Setup.{answered, freshWith}
+use Rattle.protocol.specs.Closed.{closedOf}
+use Rattle.protocol.specs.Broken.{brokenOf}
+use Rattle.unbroken.specs.Unbroken.{Unbroken}
+use Rattle.protocol.specs.declared.State.{State}
+use Rattle.protocol.specs.declared.View.{View}
+use Rattle.protocol.specs.declared.Setup.{Setup}
+use Rattle.protocol.specs.Outcome.{Outcome}
+use Rattle.unbroken.proofs.Laws.{unbroken}
+use Rattle.protocol.specs.Step.{numberOf, afterOf, ruleOf, stepOf}
+use Rattle.protocol.specs.declared.Step.{Step}
+use Rattle.protocol.specs.declared.Step.the-variants.{Send, Receive, PreCheck, SendRecord, Timeout, TakeRecord, TakeAck, PostCheck, TakeRepair, SendUpdate, TakeUpdate, TakeUack, Expire, Lose, Crash, Restart}
+use Rattle.protocol.specs.Run.{ran, freshOf}
 use Rattle.keeps.specs.Laws.{madeBy}
 use Rattle.keeps.proofs.Conditions.{taken-when}
 use Rattle.keeps.proofs.Laws.{made-counts}
 use Rattle.guarantees.specs.Acknowledged.{Legal, after}
 use Rattle.guarantees.specs.Guarantees.{causesOf, sentCauses, SentCause, SentReach, Drains, TheWalk}
-use Rattle.runs.specs.Drain.{allUp, drainOf}
+use Rattle.protocol.specs.Drain.{allUp, drainOf}
 use Rattle.drains.specs.Drains.{stepsOf}
 use Rattle.reaches.specs.Reaches.{Reach, Cause as Cause′}
 use Rattle.reaches.proofs.Laws.{answered-reaches}
-use Rattle.walk.specs.declared.Met.{Met}
-use Rattle.walk.specs.Walk.{added, spoiled, foundOf, causesHeld, receiptOf, hopOf, each, visitOf, unmet, walkedFrom, walkOf}
+use Rattle.protocol.specs.declared.Met.{Met}
+use Rattle.protocol.specs.Walk.{added, spoiled, foundOf, causesHeld, receiptOf, hopOf, each, visitOf, unmet, walkedFrom, walkOf}
 use Rattle.guarantees.proofs.Whole.{Everywhere, Here}
 use Rattle.guarantees.proofs.Heads.{stores8, absurd-eq}
 use Rattle.guarantees.proofs.Causes.{Cause, turn-causes}
 use Rattle.guarantees.proofs.Reached.{Reached, Causes, new-sender}
 use Rattle.guarantees.proofs.Steps.{Move, turns-to, unmade, moves, step-reached}
 use Rattle.guarantees.proofs.Demand.{fresh-reached, reached}
-use Rattle.runs.proofs.Some.{ran-append}
+use Rattle.reads.proofs.Some.{ran-append}
 use Rattle.guarantees.proofs.Drained.{the-drain}
 use Rattle.guarantees.proofs.Closing.{Rests, closed-of, accurate}
 
@@ -57,7 +57,7 @@ stays-fine false true c x y z e f g = f
 stays-fine false false true x y z e f g = g
 stays-fine false false false x y z e f g = absurd-eq (sym e)
 
-module _ (m : Machine) (c : Reached m) (closed : (k : ℕ) → k < m .made → closedOf m k ≡ true) where
+module _ (m : State) (c : Reached m) (closed : (k : ℕ) → k < m .made → closedOf m k ≡ true) where
   u : Unbroken m
   u = unbroken m (c .fine)
 
@@ -147,40 +147,40 @@ module _ (m : Machine) (c : Reached m) (closed : (k : ℕ) → k < m .made → c
   walk-answered k hk = rw (c .fine, lt-leb (m .made) k hk, visit-fine 16 k unmet hk refl)
 
 -- the causes that a record holds are those of its send: a run from m keeps those of its interactions, and adds the later ones
-record Sent (m : Machine) (steps : List Step) : Type 0 where
+record Sent (m : State) (steps : List Step) : Type 0 where
   old : (k : ℕ) → k < m .made → view (ran m steps) (number k 0) .causes ≡ view m (number k 0) .causes
   new : (k : ℕ) → m .made ≤ k → k < ran m steps .made → getD (sentCauses m steps) (k - m .made) 0 ≡ view (ran m steps) (number k 0) .causes
   grown : m .made ≤ ran m steps .made
 
 -- one step: nothing is sent, or a send is taken whose interaction comes next
-data Sending (m : Machine) (s : Step) : Type 0 where
-  nothing : stepOf m s .machine .made ≡ m .made → pick (eqb (stepOf m s .answer) 0) (causesOf s) [] ≡ [] → Sending m s
-  sends : (causes : ℕ) → stepOf m s .machine .made ≡ m .made + 1 → pick (eqb (stepOf m s .answer) 0) (causesOf s) [] ≡ causes ∷ []
-      → view (stepOf m s .machine) (number (m .made) 0) .causes ≡ causes → Sending m s
+data Sending (m : State) (s : Step) : Type 0 where
+  nothing : stepOf m s .state .made ≡ m .made → pick (eqb (stepOf m s .answer) 0) (causesOf s) [] ≡ [] → Sending m s
+  sends : (causes : ℕ) → stepOf m s .state .made ≡ m .made + 1 → pick (eqb (stepOf m s .answer) 0) (causesOf s) [] ≡ causes ∷ []
+      → view (stepOf m s .state) (number (m .made) 0) .causes ≡ causes → Sending m s
 
 none-sent : (s : Step) → causesOf s ≡ [] → (b : Bool) → pick b (causesOf s) [] ≡ []
 none-sent s e true = e
 none-sent s e false = refl
 
-taken-step : (m : Machine) (s : Step) → brokenOf m ≡ false → numberOf m s ≡ 0 → stepOf m s ≡ answered 0 (afterOf m s)
+taken-step : (m : State) (s : Step) → brokenOf m ≡ false → numberOf m s ≡ 0 → stepOf m s ≡ answered 0 (afterOf m s)
 unfolding stepOf ruleOf
 taken-step m s b e = rw (b, eq-eqb (numberOf m s) 0 e)
 
-refused-step : (m : Machine) (s : Step) → brokenOf m ≡ false → numberOf m s ≢ 0 → stepOf m s ≡ answered (numberOf m s) m
+refused-step : (m : State) (s : Step) → brokenOf m ≡ false → numberOf m s ≢ 0 → stepOf m s ≡ answered (numberOf m s) m
 unfolding stepOf ruleOf
 refused-step m s b n = rw (b, ne-eqb (numberOf m s) 0 n)
 
-module _ (m : Machine) (c : Reached m) where
+module _ (m : State) (c : Reached m) where
   other-kind : (s : Step) → numberOf m s ≡ 0 → causesOf s ≡ [] → madeBy m s ≡ m .made → Sending m s
   other-kind s e f g =
-      nothing (ap (λ (a : Answered). a .machine .made) (taken-step m s (c .fine) e) ∙ made-counts m s ∙ g) (none-sent s f (eqb (stepOf m s .answer) 0))
+      nothing (ap (λ (a : Outcome). a .state .made) (taken-step m s (c .fine) e) ∙ made-counts m s ∙ g) (none-sent s f (eqb (stepOf m s .answer) 0))
 
   taken : (s : Step) → numberOf m s ≡ 0 → Sending m s
   taken (Send from to own word causes) e =
       let x = taken-step m (Send from to own word causes) (c .fine) e in
-      let y = ap (λ (a : Answered). a .answer) x in
-      sends causes (ap (λ (a : Answered). a .machine .made) x ∙ made-counts m (Send from to own word causes)) (rw (eq-eqb (stepOf m (Send from to own word causes) .answer) 0 y))
-      (ap (λ (a : Answered). view (a .machine) (number (m .made) 0) .causes) x ∙ ap (λ (w : View). w .causes) (new-sender m c from to own word causes (taken-when m (Send from to own word causes) e .room)))
+      let y = ap (λ (a : Outcome). a .answer) x in
+      sends causes (ap (λ (a : Outcome). a .state .made) x ∙ made-counts m (Send from to own word causes)) (rw (eq-eqb (stepOf m (Send from to own word causes) .answer) 0 y))
+      (ap (λ (a : Outcome). view (a .state) (number (m .made) 0) .causes) x ∙ ap (λ (w : View). w .causes) (new-sender m c from to own word causes (taken-when m (Send from to own word causes) e .room)))
   taken (Receive k) e = other-kind (Receive k) e refl refl
   taken (PreCheck a) e = other-kind (PreCheck a) e refl refl
   taken (SendRecord a) e = other-kind (SendRecord a) e refl refl
@@ -204,17 +204,17 @@ module _ (m : Machine) (c : Reached m) where
       go (yes e) = taken s e
       go (no n) =
           let x = refused-step m s (c .fine) n in
-          let y : stepOf m s .answer ≢ 0 = λ z. n (sym (ap (λ (a : Answered). a .answer) x) ∙ z) in
-          nothing (ap (λ (a : Answered). a .machine .made) x) (rw (ne-eqb (stepOf m s .answer) 0 y))
+          let y : stepOf m s .answer ≢ 0 = λ z. n (sym (ap (λ (a : Outcome). a .answer) x) ∙ z) in
+          nothing (ap (λ (a : Outcome). a .state .made) x) (rw (ne-eqb (stepOf m s .answer) 0 y))
 
   -- the causes of an interaction that is there stay
-  causes-stay : (s : Step) (k : ℕ) → k < m .made → view (stepOf m s .machine) (number k 0) .causes ≡ view m (number k 0) .causes
+  causes-stay : (s : Step) (k : ℕ) → k < m .made → view (stepOf m s .state) (number k 0) .causes ≡ view m (number k 0) .causes
   causes-stay s k h = go (moves m c s (number k 0))
     where
       there : 1 ≤ view m (number k 0) .phase
       there = unbroken m (c .fine) .senderMade k h
 
-      go : Move m s (stepOf m s .machine) (number k 0) → view (stepOf m s .machine) (number k 0) .causes ≡ view m (number k 0) .causes
+      go : Move m s (stepOf m s .state) (number k 0) → view (stepOf m s .state) (number k 0) .causes ≡ view m (number k 0) .causes
       go (turns-to t) = turn-causes t there
       go (unmade z) = absurd (omega (arith, z .before, there))
 
@@ -222,36 +222,36 @@ front : (b : Bool) (l rest : List ℕ) → pick b (l ++ rest) rest ≡ pick b l 
 front true l rest = refl
 front false l rest = refl
 
-sent-run : (steps : List Step) (m : Machine) → Reached m → Sent m steps
+sent-run : (steps : List Step) (m : State) → Reached m → Sent m steps
 unfolding ran sentCauses
 sent-run [] m c = record { old = λ k h. refl; new = λ k h g. absurd (let z : ⊥ = omega arith in z); grown = omega arith }
-sent-run (s ∷ steps) m c = go (sending m c s) (sent-run steps (stepOf m s .machine) (step-reached m c s))
+sent-run (s ∷ steps) m c = go (sending m c s) (sent-run steps (stepOf m s .state) (step-reached m c s))
   where
-    n : Machine
-    n = stepOf m s .machine
+    n : State
+    n = stepOf m s .state
 
-    go : Sending m s → Sent (stepOf m s .machine) steps → Sent m (s ∷ steps)
+    go : Sending m s → Sent (stepOf m s .state) steps → Sent m (s ∷ steps)
     go (nothing e f) r =
         record {
           old = λ k h. r .old k (omega arith) ∙ causes-stay m c s k h;
           new = λ k h g.
-              let z : k - m .made ≡ k - stepOf m s .machine .made = omega arith in
-              rw (front (eqb (stepOf m s .answer) 0) (causesOf s) (sentCauses (stepOf m s .machine) steps), f, z) (r .new k (omega arith) g);
+              let z : k - m .made ≡ k - stepOf m s .state .made = omega arith in
+              rw (front (eqb (stepOf m s .answer) 0) (causesOf s) (sentCauses (stepOf m s .state) steps), f, z) (r .new k (omega arith) g);
           grown = omega (arith, r .grown);
         }
     go (sends causes e f v) r =
         record {
           old = λ k h. r .old k (omega arith) ∙ causes-stay m c s k h;
-          new = λ k h g. rw (front (eqb (stepOf m s .answer) 0) (causesOf s) (sentCauses (stepOf m s .machine) steps), f) (at k h g (ℕ-discrete k (m .made)));
+          new = λ k h g. rw (front (eqb (stepOf m s .answer) 0) (causesOf s) (sentCauses (stepOf m s .state) steps), f) (at k h g (ℕ-discrete k (m .made)));
           grown = omega (arith, r .grown);
         }
       where
-        at : (k : ℕ) → m .made ≤ k → k < ran (stepOf m s .machine) steps .made → Dec (k ≡ m .made) → getD (causes ∷ sentCauses (stepOf m s .machine) steps) (k - m .made) 0 ≡ view (ran (stepOf m s .machine) steps) (number k 0) .causes
+        at : (k : ℕ) → m .made ≤ k → k < ran (stepOf m s .state) steps .made → Dec (k ≡ m .made) → getD (causes ∷ sentCauses (stepOf m s .state) steps) (k - m .made) 0 ≡ view (ran (stepOf m s .state) steps) (number k 0) .causes
         at k h g (yes x) =
             let z : k - m .made ≡ 0 = omega arith in
-            rw z (sym (r .old k (omega arith) ∙ ap (λ (i : ℕ). view (stepOf m s .machine) (number i 0) .causes) x ∙ v))
+            rw z (sym (r .old k (omega arith) ∙ ap (λ (i : ℕ). view (stepOf m s .state) (number i 0) .causes) x ∙ v))
         at k h g (no x) =
-            let z : k - m .made ≡ suc (k - stepOf m s .machine .made) = omega arith in
+            let z : k - m .made ≡ suc (k - stepOf m s .state .made) = omega arith in
             rw z (r .new k (omega arith) g)
 
 module _ (u : Setup) (l : Legal u) (steps : List Step) (up : allUp (after u steps) ≡ true) where
@@ -259,40 +259,40 @@ module _ (u : Setup) (l : Legal u) (steps : List Step) (up : allUp (after u step
   drained = the-drain u l steps up
 
   -- the drained machine is reached by a run, and everything in it is closed
-  final : Reached (drainOf (after u steps) .machine)
+  final : Reached (drainOf (after u steps) .state)
   final = subst Reached (sym (drained .run)) (reached u l (steps ++ stepsOf (after u steps)))
 
-  final-closed : (k : ℕ) → k < drainOf (after u steps) .machine .made → closedOf (drainOf (after u steps) .machine) k ≡ true
+  final-closed : (k : ℕ) → k < drainOf (after u steps) .state .made → closedOf (drainOf (after u steps) .state) k ≡ true
   final-closed k h = drained .closes k (omega (arith, drained .made))
 
   -- what the records of the drained machine hold was sent
-  as-sent : (k : ℕ) → k < after u steps .made → view (drainOf (after u steps) .machine) (number k 0) .causes ≡ getD (sentCauses (freshOf u) steps) k 0
+  as-sent : (k : ℕ) → k < after u steps .made → view (drainOf (after u steps) .state) (number k 0) .causes ≡ getD (sentCauses (freshOf u) steps) k 0
   unfolding freshWith
   as-sent k h =
       let z : k - 0 ≡ k = omega arith in
       let a = sent-run steps (freshOf u) (fresh-reached u l) .new k (omega arith) h in
-      ap (λ (m : Machine). view m (number k 0) .causes) (drained .run ∙ ran-append (freshOf u) steps (stepsOf (after u steps)))
+      ap (λ (m : State). view m (number k 0) .causes) (drained .run ∙ ran-append (freshOf u) steps (stepsOf (after u steps)))
       ∙ sent-run (stepsOf (after u steps)) (after u steps) (reached u l steps) .old k h
       ∙ sym (ap (λ (i : ℕ). getD (sentCauses (freshOf u) steps) i 0) (sym z) ∙ a)
 
   -- so what is reached over the one is reached over the other
-  to-sent : (k i : ℕ) → k < after u steps .made → Reach (drainOf (after u steps) .machine) k i → SentReach u steps k i
+  to-sent : (k i : ℕ) → k < after u steps .made → Reach (drainOf (after u steps) .state) k i → SentReach u steps k i
   to-sent k i h Reach.here = SentReach.here
   to-sent k i h (Reach.by {j = j} c r) =
-      let b : j < k = omega (arith, unbroken (drainOf (after u steps) .machine) (final .fine) .causeBelow (number k 0) j (omega (arith, unbroken (after u steps) (reached u l steps .fine) .made16)) (c .low) (c .set)) in
+      let b : j < k = omega (arith, unbroken (drainOf (after u steps) .state) (final .fine) .causeBelow (number k 0) j (omega (arith, unbroken (after u steps) (reached u l steps .fine) .made16)) (c .low) (c .set)) in
       let d : SentCause u steps k j = record { low = c .low; set = rw (← as-sent k h) (c .set) } in
       SentReach.by d (to-sent j i (omega arith) r)
 
-  of-sent : (k i : ℕ) → k < after u steps .made → SentReach u steps k i → Reach (drainOf (after u steps) .machine) k i
+  of-sent : (k i : ℕ) → k < after u steps .made → SentReach u steps k i → Reach (drainOf (after u steps) .state) k i
   of-sent k i h SentReach.here = Reach.here
   of-sent k i h (SentReach.by {j = j} c r) =
-      let d : Cause′ (drainOf (after u steps) .machine) k j = record { low = c .low; set = rw (as-sent k h) (c .set) } in
-      let b : j < k = omega (arith, unbroken (drainOf (after u steps) .machine) (final .fine) .causeBelow (number k 0) j (omega (arith, unbroken (after u steps) (reached u l steps .fine) .made16)) (c .low) (d .set)) in
+      let d : Cause′ (drainOf (after u steps) .state) k j = record { low = c .low; set = rw (as-sent k h) (c .set) } in
+      let b : j < k = omega (arith, unbroken (drainOf (after u steps) .state) (final .fine) .causeBelow (number k 0) j (omega (arith, unbroken (after u steps) (reached u l steps .fine) .made16)) (c .low) (d .set)) in
       Reach.by d (of-sent j i (omega arith) r)
 
 pub the-walk : TheWalk
 the-walk u l steps up k h =
-    let m = drainOf (after u steps) .machine in
+    let m = drainOf (after u steps) .state in
     let f = final u l steps up in
     let a = walk-answered m f (final-closed u l steps up) k (omega (arith, the-drain u l steps up .made)) in
     let r = answered-reaches m k (walkOf m k) refl a in

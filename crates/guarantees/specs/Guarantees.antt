@@ -5,24 +5,24 @@ use mathlib.Core.Bool.{true}
 use mathlib.Core.List.{List, [], _∷_, _++_}
 use lib.Dec.{eqb}
 use lib.ListN.{length, getD, take}
-use Rattle.machine.specs.Words.{pick, bit, times}
-use Rattle.machine.specs.Slots.{number, statusNumber, view, contents, causeLinks, viewlink}
-use Rattle.machine.specs.Setup.{emptyMachine, setupOf}
-use Rattle.machine.specs.Broken.{brokenOf}
-use Rattle.machine.specs.Closed.{closedOf}
-use Rattle.machine.specs.declared.Machine.{Machine}
-use Rattle.machine.specs.declared.View.{View}
-use Rattle.machine.specs.declared.Setup.{Setup}
-use Rattle.machine.specs.declared.Status.{Status}
-use Rattle.rules.specs.Step.{stepOf}
-use Rattle.rules.specs.Steps.{manyOf}
-use Rattle.rules.specs.declared.Step.{Step}
-use Rattle.rules.specs.declared.Step.the-variants.{Send, Receive, PreCheck, SendRecord, Timeout, TakeRecord, TakeAck, PostCheck, TakeRepair, SendUpdate, TakeUpdate, TakeUack, Expire, Lose, Crash, Restart}
-use Rattle.runs.specs.Book.{setupRead}
-use Rattle.runs.specs.Run.{freshOf, runOf, bufferOf, stepsRead}
-use Rattle.runs.specs.Drain.{allUp, drainOf}
+use Rattle.protocol.specs.Words.{pick, bit, times}
+use Rattle.protocol.specs.Slots.{number, statusNumber, view, contents, causeLinks, viewlink}
+use Rattle.protocol.specs.Setup.{emptyMachine, setupOf}
+use Rattle.protocol.specs.Broken.{brokenOf}
+use Rattle.protocol.specs.Closed.{closedOf}
+use Rattle.protocol.specs.declared.State.{State}
+use Rattle.protocol.specs.declared.View.{View}
+use Rattle.protocol.specs.declared.Setup.{Setup}
+use Rattle.protocol.specs.declared.Status.{Status}
+use Rattle.protocol.specs.Step.{stepOf}
+use Rattle.protocol.specs.Steps.{manyOf}
+use Rattle.protocol.specs.declared.Step.{Step}
+use Rattle.protocol.specs.declared.Step.the-variants.{Send, Receive, PreCheck, SendRecord, Timeout, TakeRecord, TakeAck, PostCheck, TakeRepair, SendUpdate, TakeUpdate, TakeUack, Expire, Lose, Crash, Restart}
+use Rattle.protocol.specs.Book.{setupRead}
+use Rattle.protocol.specs.Run.{freshOf, runOf, bufferOf, stepsRead}
+use Rattle.protocol.specs.Drain.{allUp, drainOf}
 use Rattle.drains.specs.Drains.{stepsOf}
-use Rattle.walk.specs.Walk.{walkOf}
+use Rattle.protocol.specs.Walk.{walkOf}
 use Rattle.guarantees.specs.Acknowledged.{Legal, after, accepted, acknowledged, AckedBy}
 
 -- the causes of a send; no other step has any
@@ -45,7 +45,7 @@ causesOf (Crash p) = []
 causesOf (Restart p) = []
 
 -- the keys of a walk, in the order first met
-abbrev pub keysWalked : Machine → ℕ → List ℕ
+abbrev pub keysWalked : State → ℕ → List ℕ
 keysWalked m k = take (walkOf m k .count) (walkOf m k .keys)
 
 -- 1. One acknowledgement. In a run a view has at most one accepting step; a view in phase 4 or 5 has exactly one.
@@ -59,7 +59,7 @@ pub record OneAcknowledgement : Type 0 where
       → j < 16 → bit (view (after u steps) (number k 0) .causes) j ≡ true → (q : ℕ) × AckedBy u steps (number j 1) q
 
 -- a store holds, for a view, the asserter, data, causes and cause links of a record
-pub record Holds (m : Machine) (p k r : ℕ) (w : View) : Type 0 where
+pub record Holds (m : State) (p k r : ℕ) (w : View) : Type 0 where
   pub held : contents m p (number k r) .held ≡ true
   pub asserter : contents m p (number k r) .asserter ≡ w .actor
   pub word : contents m p (number k r) .word ≡ w .word
@@ -99,11 +99,11 @@ ViewLinks =
 -- steps behind it, so 1 to 5 hold of it.
 pub record Drains (u : Setup) (steps : List Step) : Type 0 where
   pub answer : drainOf (after u steps) .answer ≡ 0
-  pub closes : (k : ℕ) → k < after u steps .made → closedOf (drainOf (after u steps) .machine) k ≡ true
+  pub closes : (k : ℕ) → k < after u steps .made → closedOf (drainOf (after u steps) .state) k ≡ true
   pub bound : drainOf (after u steps) .count ≤ after u steps .made * 18
   pub count : drainOf (after u steps) .count ≡ length (stepsOf (after u steps))
-  pub run : drainOf (after u steps) .machine ≡ after u (steps ++ stepsOf (after u steps))
-  pub made : drainOf (after u steps) .machine .made ≡ after u steps .made
+  pub run : drainOf (after u steps) .state ≡ after u (steps ++ stepsOf (after u steps))
+  pub made : drainOf (after u steps) .state .made ≡ after u steps .made
 
 abbrev pub TheDrain : Type 0
 TheDrain = (u : Setup) → Legal u → (steps : List Step) → allUp (after u steps) ≡ true → Drains u steps
@@ -112,10 +112,10 @@ TheDrain = (u : Setup) → Legal u → (steps : List Step) → allUp (after u st
 -- its keys are exactly those reachable over the causes as they were sent.
 
 -- the causes of the sends that were taken, in their order: those of interaction k stand at k
-unfoldable pub sentCauses : Machine → List Step → List ℕ
+unfoldable pub sentCauses : State → List Step → List ℕ
 sentCauses m [] = []
 sentCauses m (step ∷ steps) =
-    let rest = sentCauses (stepOf m step .machine) steps in
+    let rest = sentCauses (stepOf m step .state) steps in
     pick (eqb (stepOf m step .answer) 0) (causesOf step ++ rest) rest
 
 -- j is a cause that k was sent with; i is reached from k over such causes
@@ -128,9 +128,9 @@ pub data SentReach (u : Setup) (steps : List Step) : ℕ → ℕ → Type 0 wher
   by : {k j i : ℕ} → SentCause u steps k j → SentReach u steps j i → SentReach u steps k i
 
 pub record Walks (u : Setup) (steps : List Step) (k : ℕ) : Type 0 where
-  pub answered : walkOf (drainOf (after u steps) .machine) k .answer ≡ 0
-  pub once : (i : ℕ) → SentReach u steps k i → times i (keysWalked (drainOf (after u steps) .machine) k) ≡ 1
-  pub only : (i : ℕ) → 1 ≤ times i (keysWalked (drainOf (after u steps) .machine) k) → SentReach u steps k i
+  pub answered : walkOf (drainOf (after u steps) .state) k .answer ≡ 0
+  pub once : (i : ℕ) → SentReach u steps k i → times i (keysWalked (drainOf (after u steps) .state) k) ≡ 1
+  pub only : (i : ℕ) → 1 ≤ times i (keysWalked (drainOf (after u steps) .state) k) → SentReach u steps k i
 
 abbrev pub TheWalk : Type 0
 TheWalk = (u : Setup) → Legal u → (steps : List Step) → allUp (after u steps) ≡ true → (k : ℕ) → k < after u steps .made → Walks u steps k
@@ -138,25 +138,25 @@ TheWalk = (u : Setup) → Legal u → (steps : List Step) → allUp (after u ste
 -- 8. Books. The machine that `run` gives for a book that is not refused is the one after a run from a legal setup, so 1 to 7 hold of it.
 pub record BookRun (book : List ℕ) (room : ℕ) : Type 0 where
   pub legal : Legal (setupRead book)
-  pub machine : runOf book room .machine ≡ after (setupRead book) (stepsRead book)
+  pub state : runOf book room .state ≡ after (setupRead book) (stepsRead book)
 
 abbrev pub Books : Type 0
 Books = (book : List ℕ) (room : ℕ) → runOf book room .answer ≡ 0 → BookRun book room
 
 -- 9. Every call answers: each public call is a proved function with no `requires`, so it ends for every input; and its promise,
--- `result ≡ definition of the inputs`, leaves exactly one result. In order: Machine::broken, Machine::empty, Setup::setup,
+-- `result ≡ definition of the inputs`, leaves exactly one result. In order: State::broken, State::empty, Setup::setup,
 -- status_number, Recorder::step (and the joint step_unbroken), the joint steps_unbroken, run with its buffer, drain, walk.
 abbrev pub Determined : {A : Type 0} → A → Type 0
 Determined {A} d = (x y : A) → x ≡ d → y ≡ d → x ≡ y
 
 pub record EveryCall : Type 0 where
-  pub broken : (m : Machine) → Determined (brokenOf m)
+  pub broken : (m : State) → Determined (brokenOf m)
   pub empty : Determined emptyMachine
   pub setup : (u : Setup) → Determined (setupOf u)
   pub status : (s : Status) → Determined (statusNumber s)
-  pub step : (m : Machine) (s : Step) → Determined (stepOf m s)
-  pub steps : (m : Machine) (steps : List Step) (n : ℕ) → Determined (manyOf m steps n)
+  pub step : (m : State) (s : Step) → Determined (stepOf m s)
+  pub steps : (m : State) (steps : List Step) (n : ℕ) → Determined (manyOf m steps n)
   pub run : (book : List ℕ) (room : ℕ) → Determined (runOf book room)
   pub buffer : (book buffer : List ℕ) → Determined (bufferOf book buffer)
-  pub drain : (m : Machine) → Determined (drainOf m)
-  pub walk : (m : Machine) (k : ℕ) → Determined (walkOf m k)
+  pub drain : (m : State) → Determined (drainOf m)
+  pub walk : (m : State) (k : ℕ) → Determined (walkOf m k)

@@ -2,14 +2,14 @@
 ghost use Prim.Native.Nat.{_<_};
 use super::print;
 use libc::STDOUT_FILENO;
-use machine::Contents;
-use machine::Entry;
-use machine::Links;
-use machine::Machine;
-use machine::Message;
-use machine::Queue;
-use machine::Repair;
-use machine::View;
+use protocol::Contents;
+use protocol::Entry;
+use protocol::Links;
+use protocol::Message;
+use protocol::Queue;
+use protocol::Repair;
+use protocol::State;
+use protocol::View;
 
 // Bit p for a store p that is up.
 fn up_mask(up: [bool; 8]) -> u64 {
@@ -47,7 +47,7 @@ fn actor_line(actor: usize, home: u8, list: u8, q: Queue) {
     print::text(b"\n");
 }
 
-fn actors(m: Machine) {
+fn actors(m: State) {
     let mut a: usize = 0;
     while a < 8 {
         if a < m.actors as usize {
@@ -108,7 +108,7 @@ fn repair_line(v: usize, r: Repair) {
 // The line's status: 0 to-send, 1 waiting, 2 done.
 fn entry_line(v: usize, e: Entry) {
     let s = e.status;
-    let status = machine::status_number(s);
+    let status = protocol::status_number(s);
     if status != 0 {
         print::text(b"E");
         print::view(v);
@@ -155,7 +155,7 @@ fn copies_line(p: usize, v: usize, record: u8, ack: u8, update: u8, uack: u8) {
     print::text(b"\n");
 }
 
-fn place_lines(m: Machine, p: usize, v: usize)
+fn place_lines(m: State, p: usize, v: usize)
     requires { ⌜ p < 8 ⌝ }
     requires { ⌜ v < 32 ⌝ }
 {
@@ -167,7 +167,7 @@ fn place_lines(m: Machine, p: usize, v: usize)
     copies_line(p, v, m.records[at], m.acks[at], m.updates[at], m.uacks[at]);
 }
 
-fn places(m: Machine, v: usize)
+fn places(m: State, v: usize)
     requires { ⌜ v < 32 ⌝ }
 {
     let mut p: usize = 0;
@@ -179,7 +179,7 @@ fn places(m: Machine, v: usize)
     }
 }
 
-fn view_lines(m: Machine, v: usize)
+fn view_lines(m: State, v: usize)
     requires { ⌜ v < 32 ⌝ }
 {
     record_line(v, m.views[v]);
@@ -189,7 +189,7 @@ fn view_lines(m: Machine, v: usize)
     places(m, v);
 }
 
-pub(crate) fn machine(m: Machine) {
+pub(crate) fn machine(m: State) {
     let up = m.up;
     print::text(b"M");
     print::small(m.stores);

@@ -1,3 +1,4 @@
+pub mod Ruled
 pub mod Cases
 pub mod Conditions
 pub mod Index

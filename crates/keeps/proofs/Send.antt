@@ -8,24 +8,24 @@ use native.Mathlib.Omega.{arith}
 use native.Mathlib.Decide.{ℕ-discrete}
 use lib.ListN.{length, getD, set, length-set, getD-replicate}
 use lib.Seq.{getD-set-same, getD-set-other}
-use Rattle.machine.specs.Words.{bit}
-use Rattle.machine.specs.Slots.{number, noView, noMessage, view, queue, message, home}
-use Rattle.machine.specs.EverySlot.{ViewSlot, MessageSlot, EverySlot}
-use Rattle.machine.specs.declared.Machine.{Machine}
-use Rattle.machine.specs.declared.View.{View}
-use Rattle.machine.specs.declared.Message.{Message}
-use Rattle.machine.proofs.Laws.Tests.{not-both}
-use Rattle.machine.proofs.Laws.Every.{length-table, table-at}
-use Rattle.machine.proofs.Laws.Room.{actors8, bounds-of}
-use Rattle.machine.proofs.Laws.Bits.{no-bit}
-use Rattle.rules.specs.Send.{joined, homeLink, sentView, awaitedView, sent}
+use Rattle.protocol.specs.Words.{bit}
+use Rattle.protocol.specs.Slots.{number, noView, noMessage, view, queue, message, home}
+use Rattle.unbroken.specs.EverySlot.{ViewSlot, MessageSlot, EverySlot}
+use Rattle.protocol.specs.declared.State.{State}
+use Rattle.protocol.specs.declared.View.{View}
+use Rattle.protocol.specs.declared.Message.{Message}
+use Rattle.unbroken.proofs.Laws.Tests.{not-both}
+use Rattle.unbroken.proofs.Laws.Every.{length-table, table-at}
+use Rattle.unbroken.proofs.Laws.Room.{actors8, bounds-of}
+use Rattle.unbroken.proofs.Laws.Bits.{no-bit}
+use Rattle.protocol.specs.Send.{joined, homeLink, sentView, awaitedView, sent}
 use Rattle.keeps.specs.Taken.{SendTaken}
 use Rattle.keeps.proofs.Index.{at-others}
 use Rattle.keeps.proofs.Jobs.{Job, job-at, jobs-kept}
 use Rattle.keeps.proofs.Joins.{home-in, unready-job, join-queued, join-once}
 use Rattle.keeps.proofs.Cases.{pick-case}
 
-module _ (m : Machine) (s : EverySlot m) (from to own word causes : ℕ) (c : SendTaken m from to own causes) where
+module _ (m : State) (s : EverySlot m) (from to own word causes : ℕ) (c : SendTaken m from to own causes) where
   abbrev k : ℕ
   k = m .made
 

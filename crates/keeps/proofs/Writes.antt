@@ -5,18 +5,18 @@ use mathlib.Core.Bool.{Bool, false}
 use native.Mathlib.Omega.{arith}
 use lib.ListN.{length-set}
 use lib.Seq.{getD-set-other}
-use Rattle.machine.specs.Slots.{number, place, noContents, noLinks, noRepair, noEntry, statusNumber}
-use Rattle.machine.specs.Slots.{view, entry, updateCopies, uackCopies, contents, causeLinks}
-use Rattle.machine.specs.Writes.{withUpAt, withRecordCopies, withAckCopies, withUpdateCopies, withUackCopies, withViewlink, withRepair, withEntry, withContentsAt, withCauseLinks}
-use Rattle.machine.specs.EverySlot.{Sized, RepairSlot, EntrySlot, CopySlot, ContentsSlot, LinksSlot, ViewlinkSlot, EverySlot}
-use Rattle.machine.specs.declared.Machine.{Machine}
-use Rattle.machine.specs.declared.Repair.{Repair}
-use Rattle.machine.specs.declared.Entry.{Entry}
-use Rattle.machine.specs.declared.Contents.{Contents}
-use Rattle.machine.specs.declared.Links.{Links}
+use Rattle.protocol.specs.Slots.{number, place, noContents, noLinks, noRepair, noEntry, statusNumber}
+use Rattle.protocol.specs.Slots.{view, entry, updateCopies, uackCopies, contents, causeLinks}
+use Rattle.protocol.specs.Writes.{withUpAt, withRecordCopies, withAckCopies, withUpdateCopies, withUackCopies, withViewlink, withRepair, withEntry, withContentsAt, withCauseLinks}
+use Rattle.unbroken.specs.EverySlot.{Sized, RepairSlot, EntrySlot, CopySlot, ContentsSlot, LinksSlot, ViewlinkSlot, EverySlot}
+use Rattle.protocol.specs.declared.State.{State}
+use Rattle.protocol.specs.declared.Repair.{Repair}
+use Rattle.protocol.specs.declared.Entry.{Entry}
+use Rattle.protocol.specs.declared.Contents.{Contents}
+use Rattle.protocol.specs.declared.Links.{Links}
 use Rattle.keeps.proofs.Index.{at-index, at-place, at-links-place}
 
-module _ (m : Machine) (s : EverySlot m) where
+module _ (m : State) (s : EverySlot m) where
   pub up-write : (p : ℕ) (b : Bool) → p < 8 → (m .stores ≤ p → b ≡ false) → EverySlot (withUpAt m p b)
   up-write p b h f =
       let z : Sized (withUpAt m p b) = search (length-set, s .sized) in
@@ -76,7 +76,7 @@ module _ (m : Machine) (s : EverySlot m) where
 
   -- contents and, of a sender, the cause links beside them
   module _ (p k r : ℕ) (hp : p < 8) (hk : k < 16) (hr : r < 2) (c : Contents) (l : Links) where
-    abbrev held : Machine
+    abbrev held : State
     held = withCauseLinks (withContentsAt m p (number k r) c) p k l
 
     pub held-write : ContentsSlot (m .stores) p (view m (number k r)) c → LinksSlot (contents held p (number k 0) .held) (view m (number k 0) .links) (l .to) → EverySlot held

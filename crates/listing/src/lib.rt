@@ -2,8 +2,8 @@
 ghost use mathlib.Core.Path.{_≡_};
 ghost use Prim.Native.Nat.{_+_, _<_};
 ghost use Rattle.listing.specs.Text.{noText, putOf, wrote};
-ghost use Rattle.listing.specs.Listing.{large, decimal, refusedLine, countsLine, linkText, placeText, viewLine, lineOf, linesTo, heldOf, listingOf};
-use machine::Machine;
+ghost use Rattle.protocol.specs.Listing.{large, decimal, refusedLine, countsLine, linkText, placeText, viewLine, lineOf, linesTo, heldOf, listingOf};
+use protocol::State;
 
 // Bytes, and how many of them are written. No listing is longer than 990.
 pub struct Text {
@@ -121,7 +121,7 @@ impl Text {
     }
 
     // A line for a view that is made, nothing for another.
-    fn view(self, m: Machine, v: u8) -> Text
+    fn view(self, m: State, v: u8) -> Text
         requires { ⌜ v < 32 ⌝ }
         ensures { λ r. ⌜ r ≡ wrote self (viewLine m v) ⌝ }
     {
@@ -134,7 +134,7 @@ impl Text {
     }
 
     // Key rising, sender first.
-    fn views(self, m: Machine) -> Text
+    fn views(self, m: State) -> Text
         ensures { λ r. ⌜ r ≡ wrote self (linesTo m 32) ⌝ }
     {
         let mut t = self;
@@ -175,7 +175,7 @@ pub fn refused(n: u8) -> Text
 }
 
 // The listing of a machine after a run of so many steps, of which so many were taken.
-pub fn listing(m: Machine, steps: u16, taken: u16) -> Text
+pub fn listing(m: State, steps: u16, taken: u16) -> Text
     ensures { λ r. ⌜ r ≡ wrote noText (listingOf m steps taken) ⌝ }
 {
     blank()

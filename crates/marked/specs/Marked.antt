@@ -5,15 +5,15 @@ use mathlib.Core.Bool.{Bool, true, false, _&&_}
 use mathlib.Core.List.{List, [], _∷_, _++_}
 use lib.Dec.{eqb}
 use lib.ListN.{take, replicate}
-use Rattle.machine.specs.Slots.{number, view, contents, viewlink}
-use Rattle.machine.specs.Setup.{setupOf}
-use Rattle.machine.specs.declared.Machine.{Machine}
-use Rattle.machine.specs.declared.Setup.{Setup}
-use Rattle.rules.specs.Step.{stepOf}
-use Rattle.rules.specs.declared.Step.{Step}
-use Rattle.rules.specs.declared.Step.the-variants.{Send, Receive, PreCheck, SendRecord, Timeout, TakeRecord, TakeAck, Lose, Crash, Restart}
-use Rattle.runs.specs.Drain.{drainOf}
-use Rattle.walk.specs.Walk.{walkOf}
+use Rattle.protocol.specs.Slots.{number, view, contents, viewlink}
+use Rattle.protocol.specs.Setup.{setupOf}
+use Rattle.protocol.specs.declared.State.{State}
+use Rattle.protocol.specs.declared.Setup.{Setup}
+use Rattle.protocol.specs.Step.{stepOf}
+use Rattle.protocol.specs.declared.Step.{Step}
+use Rattle.protocol.specs.declared.Step.the-variants.{Send, Receive, PreCheck, SendRecord, Timeout, TakeRecord, TakeAck, Lose, Crash, Restart}
+use Rattle.protocol.specs.Drain.{drainOf}
+use Rattle.protocol.specs.Walk.{walkOf}
 
 -- a step, and the number that it must answer
 pub record Asked : Type 0 where
@@ -106,7 +106,7 @@ same (x ∷ xs) [] = false
 same (x ∷ xs) (y ∷ ys) = eqb x y && same xs ys
 
 -- whether a fact holds of a machine
-unfoldable pub holds : Machine → Fact → Bool
+unfoldable pub holds : State → Fact → Bool
 unfolding same
 holds m (phase k r n) = eqb (view m (number k r) .phase) n
 holds m (at k r p) = eqb (view m (number k r) .store) p
@@ -114,21 +114,21 @@ holds m (has p k r q) = contents m p (number k r) .held && eqb (viewlink m p (nu
 holds m (refuses k n) = let w = walkOf m k in eqb (w .answer) n && eqb (w .count) 0
 holds m (walks k keys) = let w = walkOf m k in eqb (w .answer) 0 && same (take (w .count) (w .keys)) keys
 
-unfoldable pub holdAll : Machine → List Fact → Bool
+unfoldable pub holdAll : State → List Fact → Bool
 holdAll m [] = true
 holdAll m (fact ∷ facts) = holds m fact && holdAll m facts
 
-unfoldable pub concludes : Machine → Then → Bool
+unfoldable pub concludes : State → Then → Bool
 concludes m rests = true
-concludes m (drained n facts) = let d = drainOf m in eqb (d .answer) 0 && eqb (d .count) n && holdAll (d .machine) facts
+concludes m (drained n facts) = let d = drainOf m in eqb (d .answer) 0 && eqb (d .count) n && holdAll (d .state) facts
 
 -- the steps answer as they must, then the facts hold, then what follows does
-unfoldable pub goes : Machine → List Asked → List Fact → Then → Bool
+unfoldable pub goes : State → List Asked → List Fact → Then → Bool
 goes m [] facts next = holdAll m facts && concludes m next
-goes m (asked ∷ steps) facts next = let r = stepOf m (asked .step) in eqb (r .answer) (asked .answer) && goes (r .machine) steps facts next
+goes m (asked ∷ steps) facts next = let r = stepOf m (asked .step) in eqb (r .answer) (asked .answer) && goes (r .state) steps facts next
 
 unfoldable pub rowHolds : Row → Bool
-rowHolds row = let u = setupOf (row .setup) in eqb (u .answer) (row .answer) && goes (u .machine) (row .steps) (row .facts) (row .next)
+rowHolds row = let u = setupOf (row .setup) in eqb (u .answer) (row .answer) && goes (u .state) (row .steps) (row .facts) (row .next)
 
 unfoldable pub tableHolds : List Row → Bool
 tableHolds [] = true

@@ -1,10 +1,10 @@
 // What a row of the marked runs tells: the run of a book, a view, the drain, a walk.
 ghost use Prim.Native.Nat.{_<_};
 use crate::print;
-use machine::Machine;
+use protocol::State;
 
 // The number of the run, and the answer to each step.
-pub(crate) fn run(name: &[u8], book: &[u8]) -> Machine {
+pub(crate) fn run(name: &[u8], book: &[u8]) -> State {
     let mut a = [0u8; 18];
     let r = runs::run(book, &mut a);
     print::text(name);
@@ -12,7 +12,7 @@ pub(crate) fn run(name: &[u8], book: &[u8]) -> Machine {
     print::small(r.answer);
     print::text(b", answers");
     print::answers(a, r.steps);
-    let m = r.machine;
+    let m = r.state;
     m
 }
 
@@ -38,7 +38,7 @@ fn link(held: u8) {
 }
 
 // A view's phase and current store, and the link that this store has for it.
-pub(crate) fn view(name: &[u8], m: Machine, v: usize)
+pub(crate) fn view(name: &[u8], m: State, v: usize)
     requires { ⌜ v < 32 ⌝ }
 {
     let w = m.views[v];
@@ -52,23 +52,23 @@ pub(crate) fn view(name: &[u8], m: Machine, v: usize)
 }
 
 // Both views of interaction 0.
-pub(crate) fn views(m: Machine) {
+pub(crate) fn views(m: State) {
     view(b"  sender", m, 0);
     view(b"  receiver", m, 1);
 }
 
-pub(crate) fn drain(m: Machine) -> Machine {
-    let d = runs::drain(m);
+pub(crate) fn drain(m: State) -> State {
+    let d = drain::drain(m);
     print::text(b"  drain");
     print::small(d.answer);
     print::text(b", count");
     print::wide(d.count as u64);
     print::text(b"\n");
-    let after = d.machine;
+    let after = d.state;
     after
 }
 
-pub(crate) fn walk(m: Machine, key: u8) {
+pub(crate) fn walk(m: State, key: u8) {
     let w = walk::walk(m, key);
     let met = w.keys;
     print::text(b"  walk of");

@@ -1,3 +1,5 @@
+pub mod Behind
+pub mod Counted
 pub mod Keys
 pub mod Visited
 pub mod Laws

@@ -12,14 +12,14 @@ use lib.ListN.{length, drop, length-append, List·getD-eq-default}
 use lib.Seq.{drop-cons, drop-length}
 use lib.Pow.{areBytes}
 use borrow.Author.Tests.{ltb-true, ltb-false, leb-false, eqb-false, eqb-true}
-use Rattle.machine.specs.Words.{pick, table}
-use Rattle.rules.specs.declared.Step.{Step}
-use Rattle.runs.specs.declared.Read.{Read}
-use Rattle.runs.specs.declared.Read.the-variants.{Got, Bad}
-use Rattle.runs.specs.Book.{byte, low16, widths, widthOf, repairMade, shortMade, stepMade, readStep, onRead, validFrom, stepsFrom, homeRead, listRead, actorsRead, startOf, countOf, wellFormed, readingOf}
-use Rattle.runs.specs.Run.{stepsRead}
-use Rattle.runs.specs.Write.{written, writtenSteps, writtenRows, writtenBook}
-use Rattle.runs.proofs.Formed.{valid-all, start-fits, count-steps}
+use Rattle.protocol.specs.Words.{pick, table}
+use Rattle.protocol.specs.declared.Step.{Step}
+use Rattle.protocol.specs.declared.Read.{Read}
+use Rattle.protocol.specs.declared.Read.the-variants.{Got, Bad}
+use Rattle.protocol.specs.Book.{byte, low16, widths, widthOf, repairMade, shortMade, stepMade, readStep, onRead, validFrom, stepsFrom, homeRead, listRead, actorsRead, startOf, countOf, wellFormed, readingOf}
+use Rattle.protocol.specs.Run.{stepsRead}
+use Rattle.protocol.specs.Write.{written, writtenSteps, writtenRows, writtenBook}
+use Rattle.reads.proofs.Formed.{valid-all, start-fits, count-steps}
 use Rattle.reads.specs.Reading.{ReadsAlike, WritesAgain, OneReading}
 
 pub reads-alike : ReadsAlike

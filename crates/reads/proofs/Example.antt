@@ -4,17 +4,17 @@ use Prim.Native.Nat.{ℕ}
 use mathlib.Core.Path.{_≡_, refl, sym, ap, _∙_}
 use mathlib.Core.List.{[], _∷_}
 use native.Mathlib.Omega.{arith}
-use Rattle.machine.specs.Words.{allFrom, table, times, allBelow}
-use Rattle.machine.specs.Slots.{number, view}
-use Rattle.machine.specs.Setup.{legalActor, legalActors, legal, freshWith, emptyMachine, setupOf}
-use Rattle.machine.specs.Broken.{slotsFine, setupFine, rowsFine, upFine, linksFine, viewFine, queueFine, messageFine, repairFine, entryFine, recordsFine, updatesFine, contentsFine, sameLinks, heldLinksFine, viewlinksFine, jobsFine, placesFine, wholeOf, brokenOf}
-use Rattle.rules.specs.Send.{causesKnown, sendNo, sent}
-use Rattle.rules.specs.Receive.{receiveNo, receivedOf}
-use Rattle.rules.specs.Timeout.{timeoutNo, timedOut}
-use Rattle.rules.specs.Step.{ruleOf, stepOf}
-use Rattle.rules.specs.declared.Step.the-variants.{Send, Receive, Timeout}
-use Rattle.runs.specs.Book.{widthOf, repairMade, shortMade, stepMade, readStep, validFrom, stepsFrom, startOf, countOf, wellFormed, setupRead, readingOf}
-use Rattle.runs.specs.Run.{ran, answers, bookNo, runOf, filled, bufferOf}
+use Rattle.protocol.specs.Words.{allFrom, table, times, allBelow}
+use Rattle.protocol.specs.Slots.{number, view}
+use Rattle.protocol.specs.Setup.{legalActor, legalActors, legal, freshWith, emptyMachine, setupOf}
+use Rattle.protocol.specs.Broken.{slotsFine, setupFine, rowsFine, upFine, linksFine, viewFine, queueFine, messageFine, repairFine, entryFine, recordsFine, updatesFine, contentsFine, sameLinks, heldLinksFine, viewlinksFine, jobsFine, placesFine, wholeOf, brokenOf}
+use Rattle.protocol.specs.Send.{causesKnown, sendNo, sent}
+use Rattle.protocol.specs.Receive.{receiveNo, receivedOf}
+use Rattle.protocol.specs.Timeout.{timeoutNo, timedOut}
+use Rattle.protocol.specs.Step.{ruleOf, stepOf}
+use Rattle.protocol.specs.declared.Step.the-variants.{Send, Receive, Timeout}
+use Rattle.protocol.specs.Book.{widthOf, repairMade, shortMade, stepMade, readStep, validFrom, stepsFrom, startOf, countOf, wellFormed, setupRead, readingOf}
+use Rattle.protocol.specs.Run.{ran, answers, bookNo, runOf, filled, bufferOf}
 use Rattle.reads.specs.Run.{folded, after, example, counts, viewAt, ExampleRuns, IdleShutOut}
 
 pub example-runs : ExampleRuns
@@ -53,16 +53,16 @@ idle-shut-out =
       unchanging =
           λ f idle meets.
           let e : f example 4 .answer ≡ 0 = ap (λ r. r .answer) (meets example 4) ∙ example-runs .refusal in
-          let d : f example 4 .machine .made ≡ 0 = ap (λ m. m .made) (idle example 4 e) ∙ fresh-made in
+          let d : f example 4 .state .made ≡ 0 = ap (λ m. m .made) (idle example 4 e) ∙ fresh-made in
           let t : counts (runOf example 4) ≡ 3 ∷ 2 ∷ 1 ∷ 3 ∷ 2 ∷ [] = example-runs .total in
-          let u : runOf example 4 .machine .made ≡ 1 = cc in
-          never d (ap (λ r. r .machine .made) (meets example 4) ∙ u);
+          let u : runOf example 4 .state .made ≡ 1 = cc in
+          never d (ap (λ r. r .state .made) (meets example 4) ∙ u);
       pretending =
           λ f idle meets.
           let e : f example 4 .answer ≡ 0 = ap (λ r. r .answer) (meets example 4) ∙ example-runs .refusal in
-          let p : f example 4 .machine ≡ after example (Send 0 1 0 7 0 ∷ []) = idle example 4 (Send 0 1 0 7 0) (Receive 0 ∷ Timeout 0 2 ∷ []) e example-steps in
-          let d : view (f example 4 .machine) (number 0 1) .phase ≡ 0 = ap (λ m. view m (number 0 1) .phase) p ∙ first-phase in
+          let p : f example 4 .state ≡ after example (Send 0 1 0 7 0 ∷ []) = idle example 4 (Send 0 1 0 7 0) (Receive 0 ∷ Timeout 0 2 ∷ []) e example-steps in
+          let d : view (f example 4 .state) (number 0 1) .phase ≡ 0 = ap (λ m. view m (number 0 1) .phase) p ∙ first-phase in
           let t : viewAt (runOf example 4) 0 1 ≡ 0 ∷ 1 ∷ 1 ∷ 1 ∷ [] = example-runs .receiver in
-          let u : view (runOf example 4 .machine) (number 0 1) .phase ≡ 1 = cc in
-          never d (ap (λ r. view (r .machine) (number 0 1) .phase) (meets example 4) ∙ u);
+          let u : view (runOf example 4 .state) (number 0 1) .phase ≡ 1 = cc in
+          never d (ap (λ r. view (r .state) (number 0 1) .phase) (meets example 4) ∙ u);
     }

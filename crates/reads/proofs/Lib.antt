@@ -1,3 +1,6 @@
+pub mod Some
+pub mod Reading
+pub mod Formed
 pub mod Fold
 pub mod Example
 pub mod Again

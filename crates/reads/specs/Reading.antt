@@ -4,8 +4,8 @@ use mathlib.Core.Path.{_≡_}
 use mathlib.Core.Bool.{true}
 use mathlib.Core.List.{List}
 use lib.Pow.{areBytes}
-use Rattle.runs.specs.Book.{wellFormed, readingOf}
-use Rattle.runs.specs.Write.{writtenBook}
+use Rattle.protocol.specs.Book.{wellFormed, readingOf}
+use Rattle.protocol.specs.Write.{writtenBook}
 
 -- reading is a function of the bytes
 abbrev pub ReadsAlike : Type 0

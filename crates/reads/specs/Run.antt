@@ -4,31 +4,31 @@ use mathlib.Core.Path.{_≡_}
 use mathlib.Core.Logic.{_≢_}
 use mathlib.Core.List.{List, [], _∷_, _++_}
 use lib.ListN.{length, getD, take}
-use Rattle.machine.specs.Words.{times}
-use Rattle.machine.specs.Setup.{setupOf}
-use Rattle.machine.specs.Slots.{number, view}
-use Rattle.machine.specs.declared.Machine.{Machine}
-use Rattle.rules.specs.declared.Step.{Step}
-use Rattle.rules.specs.Step.{stepOf}
-use Rattle.runs.specs.declared.Ran.{Ran}
-use Rattle.runs.specs.Book.{setupRead, readingOf}
-use Rattle.runs.specs.Run.{bookNo, runOf, bufferOf}
+use Rattle.protocol.specs.Words.{times}
+use Rattle.protocol.specs.Setup.{setupOf}
+use Rattle.protocol.specs.Slots.{number, view}
+use Rattle.protocol.specs.declared.State.{State}
+use Rattle.protocol.specs.declared.Step.{Step}
+use Rattle.protocol.specs.Step.{stepOf}
+use Rattle.protocol.specs.declared.Ran.{Ran}
+use Rattle.protocol.specs.Book.{setupRead, readingOf}
+use Rattle.protocol.specs.Run.{bookNo, runOf, bufferOf}
 
 -- the machine after a step, and after one step after another, from the left
-abbrev pub next : Machine → Step → Machine
-next m step = stepOf m step .machine
+abbrev pub next : State → Step → State
+next m step = stepOf m step .state
 
 unfoldable pub folded : {A B : Type 0} → (A → B → A) → A → List B → A
 folded f a [] = a
 folded f a (b ∷ bs) = folded f (f a b) bs
 
 -- the machine after the first steps of a book
-abbrev pub after : List ℕ → List Step → Machine
-after s steps = folded next (setupOf (setupRead s) .machine) steps
+abbrev pub after : List ℕ → List Step → State
+after s steps = folded next (setupOf (setupRead s) .state) steps
 
 -- A run is the fold of the steps from the fresh machine.
 abbrev pub RunFolds : Type 0
-RunFolds = (s : List ℕ) (room : ℕ) → bookNo s room ≡ 0 → runOf s room .machine ≡ after s (readingOf s .steps)
+RunFolds = (s : List ℕ) (room : ℕ) → bookNo s room ≡ 0 → runOf s room .state ≡ after s (readingOf s .steps)
 
 -- Each answer is the number of its own step, on the machine after the steps before it.
 abbrev pub AnswersFold : Type 0
@@ -68,10 +68,10 @@ example =
 
 -- what document 01 lists of a run: stores, actors, interactions, steps, steps taken; and of a view: key, role, phase, current store
 abbrev pub counts : Ran → List ℕ
-counts r = r .machine .stores ∷ r .machine .actors ∷ r .machine .made ∷ r .steps ∷ r .taken ∷ []
+counts r = r .state .stores ∷ r .state .actors ∷ r .state .made ∷ r .steps ∷ r .taken ∷ []
 
 abbrev pub viewAt : Ran → ℕ → ℕ → List ℕ
-viewAt r key role = key ∷ role ∷ view (r .machine) (number key role) .phase ∷ view (r .machine) (number key role) .store ∷ []
+viewAt r key role = key ∷ role ∷ view (r .state) (number key role) .phase ∷ view (r .state) (number key role) .store ∷ []
 
 -- its answers are 0, 0, 7, and the byte behind them stays
 pub record ExampleRuns : Type 0 where
@@ -95,13 +95,13 @@ abbrev pub Constant : Program → Type 0
 Constant f = (s t : List ℕ) (room : ℕ) → f s room ≡ f t room
 
 abbrev pub ChangesNothing : Program → Type 0
-ChangesNothing f = (s : List ℕ) (room : ℕ) → f s room .answer ≡ 0 → f s room .machine ≡ after s []
+ChangesNothing f = (s : List ℕ) (room : ℕ) → f s room .answer ≡ 0 → f s room .state ≡ after s []
 
 -- whatever it pretends of the rest
 abbrev pub FirstStepOnly : Program → Type 0
 FirstStepOnly f =
     (s : List ℕ) (room : ℕ) (first : Step) (rest : List Step) → f s room .answer ≡ 0
-    → readingOf s .steps ≡ first ∷ rest → f s room .machine ≡ after s (first ∷ [])
+    → readingOf s .steps ≡ first ∷ rest → f s room .state ≡ after s (first ∷ [])
 
 -- The four idle programs are shut out.
 pub record IdleShutOut : Type 0 where

@@ -2,7 +2,7 @@
 use crate::step;
 use crate::story;
 use crate::tell;
-use rules::Step;
+use protocol::Step;
 
 fn w5() {
     tell::text(b"W5");

@@ -1,5 +1,5 @@
 // The sixteen kinds of a step, with their fields in the order of document 01; every send carries the data 7.
-use rules::Step;
+use protocol::Step;
 
 pub(crate) fn send(from: u8, to: u8, own: u8, causes: u16) -> Step {
     Step::Send {

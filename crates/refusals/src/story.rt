@@ -2,21 +2,22 @@
 // is worked off, and then the receiver's goes the same way. A state is how many of these steps were taken.
 use crate::step;
 use machine::Machine;
-use machine::Setup;
-use rules::Recorder;
-use rules::Step;
+use protocol::Setup;
+use protocol::State;
+use protocol::Step;
 
 // Three stores, actor 0 home 0 list 5, actor 1 home 1 list 6.
-pub(crate) fn fresh() -> Machine {
+pub(crate) fn fresh() -> State {
     let homes = [0, 1, 0, 0, 0, 0, 0, 0];
     let lists = [5, 6, 0, 0, 0, 0, 0, 0];
-    let made = Setup {
+    let made = Machine::setup(Setup {
         stores: 3,
         actors: 2,
         homes: homes,
         lists: lists,
-    }.setup();
-    made.machine
+    });
+    let fresh = made.machine;
+    fresh.state
 }
 
 fn moves(i: u8) -> Step {
@@ -50,14 +51,14 @@ fn answers(i: u8) -> Step {
     }
 }
 
-pub(crate) fn stepped(m: Machine, s: Step) -> Machine {
-    let r = Recorder { machine: m }.step(s);
+pub(crate) fn stepped(m: State, s: Step) -> State {
+    let r = Machine { state: m }.step(s);
     let after = r.machine;
-    after
+    after.state
 }
 
 // Goes on with the story from one state to another.
-pub(crate) fn told(from: Machine, first: u8, end: u8) -> Machine {
+pub(crate) fn told(from: State, first: u8, end: u8) -> State {
     let mut m = from;
     let mut i: u8 = 0;
     while i < 20 {
@@ -72,12 +73,12 @@ pub(crate) fn told(from: Machine, first: u8, end: u8) -> Machine {
 }
 
 // M after the first steps of the story.
-pub(crate) fn after(steps: u8) -> Machine {
+pub(crate) fn after(steps: u8) -> State {
     told(fresh(), 0, steps)
 }
 
 // Sixteen interactions made.
-pub(crate) fn sixteen() -> Machine {
+pub(crate) fn sixteen() -> State {
     let mut m = fresh();
     let mut i: u8 = 0;
     while i < 16 {

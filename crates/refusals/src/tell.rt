@@ -2,11 +2,11 @@
 ghost use Prim.Native.Nat.{_<_};
 use crate::story;
 use libc::STDOUT_FILENO;
-use machine::Entry;
 use machine::Machine;
-use machine::View;
-use rules::Recorder;
-use rules::Step;
+use protocol::Entry;
+use protocol::State;
+use protocol::Step;
+use protocol::View;
 
 pub(crate) fn text(s: &[u8]) {
     io::write_all(STDOUT_FILENO, s);
@@ -18,8 +18,8 @@ pub(crate) fn number(n: u8) {
 }
 
 // The answer to one step.
-pub(crate) fn answer(name: &[u8], m: Machine, s: Step) {
-    let r = Recorder { machine: m }.step(s);
+pub(crate) fn answer(name: &[u8], m: State, s: Step) {
+    let r = Machine { state: m }.step(s);
     text(name);
     number(r.answer);
     text(b"\n");
@@ -36,11 +36,11 @@ pub(crate) fn behind(name: &[u8], state: u8, first: Step, s: Step) {
 }
 
 // A step of a run: its answer is printed, and the run goes on.
-pub(crate) fn next(m: Machine, s: Step) -> Machine {
-    let r = Recorder { machine: m }.step(s);
+pub(crate) fn next(m: State, s: Step) -> State {
+    let r = Machine { state: m }.step(s);
     number(r.answer);
     let after = r.machine;
-    after
+    after.state
 }
 
 fn changed(b: bool) {
@@ -63,7 +63,7 @@ fn record(w: View) {
 }
 
 // The record of a view.
-pub(crate) fn view(m: Machine, v: usize)
+pub(crate) fn view(m: State, v: usize)
     requires { ⌜ v < 32 ⌝ }
 {
     record(m.views[v]);
@@ -80,7 +80,7 @@ fn status(n: u8) {
 
 fn state(e: Entry) {
     let s = e.status;
-    status(machine::status_number(s));
+    status(protocol::status_number(s));
     text(b" destination");
     number(e.destination);
     text(b" own");
@@ -88,7 +88,7 @@ fn state(e: Entry) {
 }
 
 // The coordinator's state for both views of interaction 0.
-pub(crate) fn entries(m: Machine) {
+pub(crate) fn entries(m: State) {
     state(m.entries[0]);
     state(m.entries[1]);
     text(b"\n");
@@ -117,12 +117,12 @@ fn store_of(held: u8) {
 }
 
 // The viewlink that store 1 holds for the receiver of interaction 0.
-pub(crate) fn viewlink(m: Machine) {
+pub(crate) fn viewlink(m: State) {
     store_of(m.viewlinks[33]);
 }
 
 // The link of cause 0 in the record of interaction 1's sender.
-pub(crate) fn cause_link(m: Machine) {
+pub(crate) fn cause_link(m: State) {
     let w = m.views[2];
     link(w.links[0]);
 }

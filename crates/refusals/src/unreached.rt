@@ -2,13 +2,13 @@
 use crate::step;
 use crate::story;
 use crate::tell;
-use machine::Entry;
-use machine::Machine;
-use machine::Message;
-use machine::Queue;
-use machine::Repair;
-use machine::Status;
-use machine::View;
+use protocol::Entry;
+use protocol::Message;
+use protocol::Queue;
+use protocol::Repair;
+use protocol::State;
+use protocol::Status;
+use protocol::View;
 
 fn message() {
     let mut m = story::after(1);
@@ -23,7 +23,7 @@ fn message() {
 }
 
 // Interaction 1, with cause 0, stands before the receipt of 0, which is in phase 1 and at store 2.
-fn receipt(changed: bool) -> Machine {
+fn receipt(changed: bool) -> State {
     let mut m = story::stepped(story::after(12), step::send(1, 0, 1, 1));
     let w = View {
         actor: 1,

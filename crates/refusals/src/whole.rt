@@ -3,8 +3,8 @@ use crate::step;
 use crate::story;
 use crate::tell;
 use machine::Machine;
-use rules::Recorder;
-use rules::Step;
+use protocol::State;
+use protocol::Step;
 
 fn early(kind: u8) -> Step {
     match kind {
@@ -33,15 +33,15 @@ fn late(kind: u8) -> Step {
     }
 }
 
-fn answer(name: &[u8], m: Machine, kind: u8) {
-    let r = Recorder { machine: m }.step(early(kind));
+fn answer(name: &[u8], m: State, kind: u8) {
+    let r = Machine { state: m }.step(early(kind));
     tell::text(name);
     tell::number(kind);
     tell::number(r.answer);
     tell::text(b"\n");
 }
 
-fn each(name: &[u8], m: Machine) {
+fn each(name: &[u8], m: State) {
     let mut kind: u8 = 1;
     while kind <= 16 {
         answer(name, m, kind);
@@ -50,7 +50,7 @@ fn each(name: &[u8], m: Machine) {
 }
 
 // More interactions than a machine has.
-fn broken() -> Machine {
+fn broken() -> State {
     let mut m = story::after(1);
     m.made = 17;
     m
@@ -58,5 +58,5 @@ fn broken() -> Machine {
 
 pub(crate) fn lines() {
     each(b"broken value, kind", broken());
-    each(b"empty machine, kind", Machine::empty());
+    each(b"empty machine, kind", broken::fresh::empty());
 }

@@ -3,26 +3,26 @@ ghost use Prim.Native.Nat.{_<_};
 ghost use lib.Dec.{eqb, ltb};
 ghost use mathlib.Core.Bool.{_&&_, _||_, false, not};
 ghost use mathlib.Core.Path.{_≡_};
-ghost use Rattle.machine.specs.Setup.{emptyMachine};
-ghost use Rattle.machine.specs.Words.{bit, table};
-ghost use Rattle.machine.specs.Writes.{withMade, withViews};
-ghost use Rattle.machine.specs.declared.Machine.{Machine};
-ghost use Rattle.rules.specs.Send.{awaitedView, causesKnown, homeLink, joined};
+ghost use Rattle.protocol.specs.Setup.{emptyMachine};
+ghost use Rattle.protocol.specs.Words.{bit, table};
+ghost use Rattle.protocol.specs.Writes.{withMade, withViews};
+ghost use Rattle.protocol.specs.declared.State.{State};
+ghost use Rattle.protocol.specs.Send.{awaitedView, causesKnown, homeLink, joined};
 ghost use Rattle.rules.specs.Slots.{Stands, outcome};
-ghost use Rattle.rules.specs.Step.{ruleOf};
-ghost use Rattle.rules.specs.declared.Step.the-variants.{Send};
+ghost use Rattle.protocol.specs.Step.{ruleOf};
+ghost use Rattle.protocol.specs.declared.Step.the-variants.{Send};
 use crate::slots::Slots;
 use crate::slots::Tried;
-use machine::Message;
-use machine::Queue;
-use machine::View;
+use protocol::Message;
+use protocol::Queue;
+use protocol::View;
 
 impl Slots {
     // Own is in from's list; each cause is an interaction that from has received. The application message is in flight, and
     // the sender's record joins the queue.
     pub(crate) fn send(self, from: u8, to: u8, own: u8, word: u32, causes: u16) -> Tried
         requires { ⌜ (self .store < 8) × (self .made < 16 → self .queue .len < 16) ⌝ }
-        ensures { λ r. ⌜ ((m : Machine) → Stands m (Send from to own word causes) self → ruleOf m (Send from to own word causes) ≡ outcome m (Send from to own word causes) r) ⌝ }
+        ensures { λ r. ⌜ ((m : State) → Stands m (Send from to own word causes) self → ruleOf m (Send from to own word causes) ≡ outcome m (Send from to own word causes) r) ⌝ }
     {
         if from == to {
             return self.with(3);

@@ -1,21 +1,21 @@
 // What stands in the slots that a step is about. A rule takes them and gives them back, so that whoever calls it
 // reads and writes a machine in place.
 ghost use mathlib.Core.Path.{_≡_};
-ghost use Rattle.machine.specs.declared.Machine.{Machine as State};
+ghost use Rattle.protocol.specs.declared.State.{State};
 ghost use Rattle.rules.specs.About.{aboutOf};
 ghost use Rattle.rules.specs.Slots.{Fits, Stands, outcome};
-ghost use Rattle.rules.specs.Step.{ruleOf};
-use crate::Step;
+ghost use Rattle.protocol.specs.Step.{ruleOf};
 use crate::past::Past;
-use machine::Contents;
-use machine::Entry;
-use machine::Links;
-use machine::Message;
-use machine::Queue;
-use machine::Repair;
-use machine::View;
+use protocol::Contents;
+use protocol::Entry;
+use protocol::Links;
+use protocol::Message;
+use protocol::Queue;
+use protocol::Repair;
+use protocol::Step;
+use protocol::View;
 
-pub(crate) struct Slots {
+pub struct Slots {
     // Which view and which store; home and list of the actor; home of the other actor; what the step looks back at.
     // No rule writes these.
     pub number: usize,
@@ -48,7 +48,7 @@ pub(crate) struct Slots {
 }
 
 // The slots after a step, and its number.
-pub(crate) struct Tried {
+pub struct Tried {
     pub answer: u8,
     pub slots: Slots,
 }
@@ -65,7 +65,7 @@ impl Slots {
     }
 
     // The rule of a step.
-    pub(crate) fn rule(self, s: Step) -> Tried
+    pub fn rule(self, s: Step) -> Tried
         requires { ⌜ Fits (aboutOf s) self ⌝ }
         ensures { λ r. ⌜ ((m : State) → Stands m s self → ruleOf m s ≡ outcome m s r) ⌝ }
     {

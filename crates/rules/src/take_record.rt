@@ -1,23 +1,23 @@
 // Step 6, store takes record: store, key, role.
 ghost use Prim.Native.Nat.{ℕ, _<_};
 ghost use mathlib.Core.Path.{_≡_};
-ghost use Rattle.machine.specs.declared.Machine.{Machine};
+ghost use Rattle.protocol.specs.declared.State.{State};
 ghost use Rattle.rules.specs.Slots.{Stands, outcome};
-ghost use Rattle.rules.specs.Step.{ruleOf};
-ghost use Rattle.rules.specs.TakeRecord.{writtenContents, writtenLinks, writtenViewlink};
-ghost use Rattle.rules.specs.declared.Step.the-variants.{TakeRecord};
+ghost use Rattle.protocol.specs.Step.{ruleOf};
+ghost use Rattle.protocol.specs.TakeRecord.{writtenContents, writtenLinks, writtenViewlink};
+ghost use Rattle.protocol.specs.declared.Step.the-variants.{TakeRecord};
 use crate::rule::one_more;
 use crate::slots::Slots;
 use crate::slots::Tried;
-use machine::Contents;
-use machine::Links;
-use machine::View;
+use protocol::Contents;
+use protocol::Links;
+use protocol::View;
 
 impl Slots {
     // Store up, a copy in flight. The copy goes; contents and viewlink are written only where none were. One ack copy.
     pub(crate) fn take_record(self) -> Tried
         requires { ⌜ self .view .viewlink < 8 ⌝ }
-        ensures { λ r. ⌜ ((m : Machine) (p k role : ℕ) → Stands m (TakeRecord p k role) self → ruleOf m (TakeRecord p k role) ≡ outcome m (TakeRecord p k role) r) ⌝ }
+        ensures { λ r. ⌜ ((m : State) (p k role : ℕ) → Stands m (TakeRecord p k role) self → ruleOf m (TakeRecord p k role) ≡ outcome m (TakeRecord p k role) r) ⌝ }
     {
         if !self.up {
             return self.with(5);

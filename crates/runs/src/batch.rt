@@ -1,17 +1,17 @@
 // Some steps of a book at a time, so that the run keeps the machine in place: the steps are read, and their answers written
 // and counted.
-use super::Read;
 use super::reader;
-use rules::Step;
+use protocol::Read;
+use protocol::Step;
 ghost use mathlib.Core.Path.{_≡_};
 ghost use mathlib.Core.List.{_++_};
 ghost use Prim.Native.Nat.{ℕ, _+_, _≤_, _<_};
 ghost use lib.Dec.{eqb};
 ghost use lib.ListN.{length, set, take};
 ghost use lib.Seq.{sets};
-ghost use Rattle.machine.specs.Words.{one, times};
-ghost use Rattle.runs.specs.Book.{readStep, stepsFrom};
-ghost use Rattle.runs.specs.declared.Read.the-variants.{Bad};
+ghost use Rattle.protocol.specs.Words.{one, times};
+ghost use Rattle.protocol.specs.Book.{readStep, stepsFrom};
+ghost use Rattle.protocol.specs.declared.Read.the-variants.{Bad};
 
 // How many steps stand at a place, and the place behind them.
 pub(crate) struct Reached {

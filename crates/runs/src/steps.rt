@@ -1,19 +1,19 @@
 // The steps of a book, run one after another, each answered at its own index. They are taken by sixty-four.
 
-use super::Ran;
 use super::batch;
 use machine::Machine;
-use rules::Recorder;
+use protocol::Ran;
+use protocol::State;
 ghost use mathlib.Core.Path.{_≡_};
 ghost use mathlib.Core.Bool.{false};
 ghost use Prim.Native.Nat.{_≤_};
 ghost use lib.ListN.{length};
-ghost use Rattle.machine.specs.Broken.{brokenOf};
-ghost use Rattle.runs.specs.Book.{stepsFrom};
-ghost use Rattle.runs.specs.Run.{filled, fullRun};
+ghost use Rattle.protocol.specs.Broken.{brokenOf};
+ghost use Rattle.protocol.specs.Book.{stepsFrom};
+ghost use Rattle.protocol.specs.Run.{filled, fullRun};
 
 // A refused step doesn't stop the run.
-pub(crate) fn run_steps(s: &[u8], n: u16, from: usize, m: Machine, answers: &mut [u8]) -> Ran
+pub(crate) fn run_steps(s: &[u8], n: u16, from: usize, m: State, answers: &mut [u8]) -> Ran
     requires { ⌜ (n ≤ length (now answers)) × (brokenOf m ≡ false) ⌝ }
     ensures { λ r. ⌜ (r ≡ fullRun m (stepsFrom (now (s .entry)) n from)) × (now (answers .exit) ≡ filled m (stepsFrom (now (s .entry)) n from) (now (answers .entry))) ⌝ }
 {
@@ -26,24 +26,25 @@ pub(crate) fn run_steps(s: &[u8], n: u16, from: usize, m: Machine, answers: &mut
         let count = l.count;
         if count == 0 {
             return Ran {
-                machine: m,
+                state: m,
                 answer: 0,
                 steps: i,
                 taken,
             };
         }
         let steps = batch::load(s, at, count);
-        let r = Recorder { machine: m }.steps_unbroken(steps, count);
+        let r = Machine { state: m }.steps_unbroken(steps, count);
         let given = r.answers;
         batch::put_all(answers, i as usize, given, count);
         taken += batch::taken(given, count);
         let after = r.machine;
-        m = after;
+        let state = after.state;
+        m = state;
         at = l.next;
         i += count as u16;
     }
     Ran {
-        machine: m,
+        state: m,
         answer: 0,
         steps: i,
         taken,

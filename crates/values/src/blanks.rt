@@ -9,12 +9,12 @@ use crate::made::record;
 use crate::made::same_contents;
 use crate::made::sender;
 use crate::tell;
-use machine::Contents;
-use machine::Entry;
-use machine::Message;
-use machine::Queue;
-use machine::Repair;
-use machine::Status;
+use protocol::Contents;
+use protocol::Entry;
+use protocol::Message;
+use protocol::Queue;
+use protocol::Repair;
+use protocol::Status;
 
 // A queue of the given length, 0 or 1, whose second place isn't blank.
 fn behind(len: u8, v: u8) -> Queue {

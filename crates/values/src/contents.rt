@@ -6,7 +6,7 @@ use crate::made::record;
 use crate::made::same_contents;
 use crate::made::sender;
 use crate::tell;
-use machine::Contents;
+use protocol::Contents;
 
 // The second interaction's contents at its store, with the given causes and link.
 fn second(name: &[u8], causes: u16, link: u8) {

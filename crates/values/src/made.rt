@@ -1,26 +1,28 @@
-// Machine values made by hand, slot by slot.
-use machine::Contents;
-use machine::Entry;
-use machine::Links;
+// State values made by hand, slot by slot.
 use machine::Machine;
-use machine::Message;
-use machine::Queue;
-use machine::Repair;
-use machine::Setup;
-use machine::Status;
-use machine::View;
+use protocol::Contents;
+use protocol::Entry;
+use protocol::Links;
+use protocol::Message;
+use protocol::Queue;
+use protocol::Repair;
+use protocol::Setup;
+use protocol::State;
+use protocol::Status;
+use protocol::View;
 
 // Setup M of document 01, fresh: three stores, actor 0 home 0 list 5, actor 1 home 1 list 6.
-fn fresh() -> Machine {
+fn fresh() -> State {
     let homes = [0, 1, 0, 0, 0, 0, 0, 0];
     let lists = [5, 6, 0, 0, 0, 0, 0, 0];
-    let made = Setup {
+    let made = Machine::setup(Setup {
         stores: 3,
         actors: 2,
         homes: homes,
         lists: lists,
-    }.setup();
-    made.machine
+    });
+    let fresh = made.machine;
+    fresh.state
 }
 
 // A record with no causes.
@@ -116,7 +118,7 @@ fn due(phase: u8) -> Message {
 }
 
 // M with one interaction, its views in the given phases, and nothing in the stores.
-fn one(sends: u8, receives: u8) -> Machine {
+fn one(sends: u8, receives: u8) -> State {
     let mut m = fresh();
     m.made = 1;
     let s = sender(sends);
@@ -133,7 +135,7 @@ fn one(sends: u8, receives: u8) -> Machine {
 }
 
 // A settled interaction, and a second: 1 sends 9 to 0, own store 1, with cause 0. The sender is in phase 1 or 5.
-fn two(sends: u8) -> Machine {
+fn two(sends: u8) -> State {
     let mut m = one(5, 5);
     m.made = 2;
     let s = caused(record(1, sends, 1, 0, 9), 1, 1);
@@ -148,7 +150,7 @@ fn two(sends: u8) -> Machine {
 }
 
 // Sixteen interactions from 0 to 1, none received, all in the queue.
-fn sixteen() -> Machine {
+fn sixteen() -> State {
     let mut m = fresh();
     let views = alternating(16, sender(1), receiver(0));
     let g = flying(0, 7);
@@ -181,7 +183,7 @@ fn alternating(made: u8, s: View, r: View) -> [View; 32] {
 }
 
 // Interactions from 0 to 1, all of whose views are in phase 5.
-fn settled(made: u8) -> Machine {
+fn settled(made: u8) -> State {
     let mut m = fresh();
     let views = alternating(made, sender(5), receiver(5));
     m.made = made;
@@ -222,7 +224,7 @@ pub(crate) fn done(destination: u8, own: u8) -> Entry {
 }
 
 // The interaction of M settled, and an entry of its sender that is done.
-fn entered() -> Machine {
+fn entered() -> State {
     let mut m = one(5, 5);
     let e = done(1, 0);
     m.entries[0] = e;
@@ -237,7 +239,7 @@ pub(crate) fn moved(w: View) -> View {
 }
 
 // Two interactions from 0 to 1, both received, and their senders in a queue in the given order.
-fn waiting(first: u8, second: u8, head: u8, behind: u8) -> Machine {
+fn waiting(first: u8, second: u8, head: u8, behind: u8) -> State {
     let mut m = settled(2);
     let s = sender(first);
     let t = sender(second);
@@ -260,9 +262,9 @@ pub(crate) enum Base {
     Waiting(u8, u8, u8, u8),
 }
 
-pub(crate) fn based(b: Base) -> Machine {
+pub(crate) fn based(b: Base) -> State {
     match b {
-        Base::Empty => Machine::empty(),
+        Base::Empty => broken::fresh::empty(),
         Base::Fresh => fresh(),
         Base::One(sends, receives) => one(sends, receives),
         Base::Two(sends) => two(sends),

@@ -3,7 +3,7 @@ use crate::made::Base;
 use crate::made::record;
 use crate::made::sender;
 use crate::tell;
-use machine::Queue;
+use protocol::Queue;
 
 // A queue that says it has one view more than there is room for.
 fn seventeen() -> Queue {

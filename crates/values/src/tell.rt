@@ -3,14 +3,14 @@ ghost use Prim.Native.Nat.{_<_};
 use crate::made::Base;
 use crate::made::based;
 use libc::STDOUT_FILENO;
-use machine::Contents;
-use machine::Entry;
-use machine::Links;
-use machine::Machine;
-use machine::Message;
-use machine::Queue;
-use machine::Repair;
-use machine::View;
+use protocol::Contents;
+use protocol::Entry;
+use protocol::Links;
+use protocol::Message;
+use protocol::Queue;
+use protocol::Repair;
+use protocol::State;
+use protocol::View;
 
 fn text(s: &[u8]) {
     io::write_all(STDOUT_FILENO, s);
@@ -24,9 +24,9 @@ fn verdict(broken: bool) {
     text(b" 0\n");
 }
 
-pub(crate) fn value(name: &[u8], m: Machine) {
+pub(crate) fn value(name: &[u8], m: State) {
     text(name);
-    verdict(m.broken());
+    verdict(broken::is_broken(m));
 }
 
 pub(crate) fn base(name: &[u8], b: Base) {

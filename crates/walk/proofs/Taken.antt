@@ -7,20 +7,20 @@ use native.Mathlib.Omega.{arith}
 use native.Mathlib.Decide.{decLt}
 use lib.ListN.{length, getD}
 use borrow.Author.Tests.{le-leb, lt-leb, ne-eqb}
-use Rattle.machine.specs.Words.{table}
-use Rattle.machine.specs.Slots.{number, place, linksPlace}
-use Rattle.machine.specs.Closed.{closedOf}
-use Rattle.machine.specs.declared.Machine.{Machine}
-use Rattle.machine.proofs.Laws.Every.{table-at}
-use Rattle.walk.proofs.Behind.{nothing-held}
-use Rattle.walk.specs.Walk.{foundOf, causesHeld, receiptOf, hopOf}
+use Rattle.protocol.specs.Words.{table}
+use Rattle.protocol.specs.Slots.{number, place, linksPlace}
+use Rattle.protocol.specs.Closed.{closedOf}
+use Rattle.protocol.specs.declared.State.{State}
+use Rattle.unbroken.proofs.Laws.Every.{table-at}
+use Rattle.reaches.proofs.Behind.{nothing-held}
+use Rattle.protocol.specs.Walk.{foundOf, causesHeld, receiptOf, hopOf}
 use Rattle.walk.specs.Past.{closedIn, heldIn, causesIn, LaidOut, Past, foundIn, receiptIn, hopIn}
 
-closed-same : (m : Machine) (k : ℕ) → closedIn (m .views) (m .repairs) (m .entries) k ≡ closedOf m k
+closed-same : (m : State) (k : ℕ) → closedIn (m .views) (m .repairs) (m .entries) k ≡ closedOf m k
 unfolding closedOf
 closed-same m k = refl
 
-pub taken : (m : Machine) → length (m .contents) ≡ 256 → {closed held : List Bool} {causes links : List ℕ}
+pub taken : (m : State) → length (m .contents) ≡ 256 → {closed held : List Bool} {causes links : List ℕ}
     → closed ≡ table (closedIn (m .views) (m .repairs) (m .entries)) 16 → held ≡ table (heldIn (m .contents)) 256 → causes ≡ table (causesIn (m .contents)) 256
     → LaidOut 128 (m .links) links → Past m closed held causes links (m .viewlinks)
 taken m long {closed} {held} {causes} {links} c h s l =
@@ -33,7 +33,7 @@ taken m long {closed} {held} {causes} {links} c h s l =
       viewlinksAt = refl;
     }
 
-module _ {m : Machine} {closed held : List Bool} {causes links viewlinks : List ℕ} (past : Past m closed held causes links viewlinks) where
+module _ {m : State} {closed held : List Bool} {causes links viewlinks : List ℕ} (past : Past m closed held causes links viewlinks) where
   pub found-same : (k link : ℕ) → k < 16 → foundIn closed held k link ≡ foundOf m k link
   unfolding foundOf
   found-same k link b =

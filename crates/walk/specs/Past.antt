@@ -5,15 +5,15 @@ use mathlib.Core.Bool.{Bool, false, _&&_, not}
 use mathlib.Core.List.{List}
 use lib.Dec.{leb, eqb}
 use lib.ListN.{length, getD}
-use Rattle.machine.specs.Words.{pick}
-use Rattle.machine.specs.Slots.{number, place, linksPlace, noView, noRepair, noEntry, noContents, noLinks, statusNumber}
-use Rattle.machine.specs.Closed.{closedOf}
-use Rattle.machine.specs.declared.Machine.{Machine}
-use Rattle.machine.specs.declared.View.{View}
-use Rattle.machine.specs.declared.Repair.{Repair}
-use Rattle.machine.specs.declared.Entry.{Entry}
-use Rattle.machine.specs.declared.Contents.{Contents}
-use Rattle.machine.specs.declared.Links.{Links}
+use Rattle.protocol.specs.Words.{pick}
+use Rattle.protocol.specs.Slots.{number, place, linksPlace, noView, noRepair, noEntry, noContents, noLinks, statusNumber}
+use Rattle.protocol.specs.Closed.{closedOf}
+use Rattle.protocol.specs.declared.State.{State}
+use Rattle.protocol.specs.declared.View.{View}
+use Rattle.protocol.specs.declared.Repair.{Repair}
+use Rattle.protocol.specs.declared.Entry.{Entry}
+use Rattle.protocol.specs.declared.Contents.{Contents}
+use Rattle.protocol.specs.declared.Links.{Links}
 
 -- a view that rests: in phase 5, no repair in flight, no entry to-send or waiting
 abbrev pub restsIn : View → Repair → Entry → Bool
@@ -48,7 +48,7 @@ pub record LaidOut (n : ℕ) (links : List Links) (out : List ℕ) : Type 0 wher
   pub laid : (i j : ℕ) → i < n → j < 16 → getD out (i * 16 + j) 0 ≡ getD (getD links i noLinks .to) j 0
 
 -- the arrays are those of the machine
-pub record Past (m : Machine) (closed held : List Bool) (causes links viewlinks : List ℕ) : Type 0 where
+pub record Past (m : State) (closed held : List Bool) (causes links viewlinks : List ℕ) : Type 0 where
   pub long : length (m .contents) ≡ 256
   pub closedAt : (k : ℕ) → k < 16 → getD closed k false ≡ closedOf m k
   pub heldAt : (i : ℕ) → i < 256 → getD held i false ≡ heldIn (m .contents) i

@@ -4,68 +4,54 @@ ghost use mathlib.Core.Path.{_≡_};
 ghost use mathlib.Core.Bool.{true, false, _&&_};
 ghost use lib.ListN.{length};
 ghost use Prim.Native.Nat.{ℕ, _+_, _<_, _≤_};
-ghost use Rattle.machine.specs.Words.{bit, table};
-ghost use Rattle.machine.specs.Broken.{brokenOf};
-ghost use Rattle.walk.specs.Walk.{added, spoiled, causesHeld, hopOf, each, visitOf, refusedWalk, answerOf, walkOf};
+ghost use Rattle.protocol.specs.Words.{bit, table};
+ghost use Rattle.protocol.specs.Broken.{brokenOf};
+ghost use Rattle.protocol.specs.Walk.{added, spoiled, causesHeld, hopOf, each, visitOf, refusedWalk, answerOf, walkOf};
 ghost use Rattle.walk.specs.Past.{restsIn, closedIn, heldIn, causesIn, Laid, LaidOut, Past, foundIn, receiptIn, hopIn};
-ghost use Rattle.walk.specs.Tally.{Tally};
-use machine::Contents;
-use machine::Entry;
-use machine::Links;
-use machine::Machine;
-use machine::Repair;
-use machine::View;
-use machine::status_number;
+ghost use Rattle.reaches.specs.Tally.{Tally};
+use broken::is_broken;
+use protocol::Contents;
+use protocol::Entry;
+use protocol::Links;
+use protocol::Met;
+use protocol::Repair;
+use protocol::State;
+use protocol::View;
+use protocol::Walked;
+use protocol::status_number;
 
-// The keys met so far, in the order first met; fine until one isn't closed or an entry or link is missing.
-pub struct Met {
-    pub fine: bool,
-    pub met: [bool; 16],
-    pub keys: [u8; 16],
-    pub count: u8,
+fn add(w: Met, k: usize) -> Met
+    requires { ⌜ (k < 16) × (w .count < 16) ⌝ }
+    ensures { λ r. ⌜ r ≡ added w k ⌝ }
+{
+    let mut w = w;
+    let at = w.count as usize;
+    w.met[k] = true;
+    w.keys[at] = k as u8;
+    w.count += 1;
+    w
 }
 
-// What a walk answers: no keys where it is refused.
-pub struct Walked {
-    pub answer: u8,
-    pub keys: [u8; 16],
-    pub count: u8,
+fn spoil(w: Met) -> Met
+    ensures { λ r. ⌜ r ≡ spoiled w ⌝ }
+{
+    let mut w = w;
+    w.fine = false;
+    w
 }
 
-impl Met {
-    fn add(self, k: usize) -> Met
-        requires { ⌜ (k < 16) × (self .count < 16) ⌝ }
-        ensures { λ r. ⌜ r ≡ added self k ⌝ }
-    {
-        let mut w = self;
-        let at = w.count as usize;
-        w.met[k] = true;
-        w.keys[at] = k as u8;
-        w.count += 1;
-        w
+fn answer(w: Met) -> Walked
+    ensures { λ r. ⌜ r ≡ answerOf w ⌝ }
+{
+    if w.fine {
+        let keys = w.keys;
+        return Walked {
+            answer: 0,
+            keys,
+            count: w.count,
+        };
     }
-
-    fn spoil(self) -> Met
-        ensures { λ r. ⌜ r ≡ spoiled self ⌝ }
-    {
-        let mut w = self;
-        w.fine = false;
-        w
-    }
-
-    fn answer(self) -> Walked
-        ensures { λ r. ⌜ r ≡ answerOf self ⌝ }
-    {
-        if self.fine {
-            let keys = self.keys;
-            return Walked {
-                answer: 0,
-                keys,
-                count: self.count,
-            };
-        }
-        refused(13)
-    }
+    refused(13)
 }
 
 fn refused(answer: u8) -> Walked
@@ -262,7 +248,7 @@ fn visit<'a>(
 ) -> Met
     requires { ⌜ (k < 16) × Tally w ⌝ }
     ensures tally { λ r. ⌜ Tally r ⌝ }
-    ensures same { λ r. ⌜ ((m : Machine) → Past m (now (closed .entry)) (now (held .entry)) (now (sets .entry)) (now (links .entry)) (now (viewlinks .entry)) → (depth : ℕ) → k < depth → r ≡ visitOf depth m k link w) ⌝ }
+    ensures same { λ r. ⌜ ((m : State) → Past m (now (closed .entry)) (now (held .entry)) (now (sets .entry)) (now (links .entry)) (now (viewlinks .entry)) → (depth : ℕ) → k < depth → r ≡ visitOf depth m k link w) ⌝ }
 {
     if !w.fine {
         return w;
@@ -271,9 +257,9 @@ fn visit<'a>(
         return w;
     }
     if found(closed, held, k, link) {
-        return causes(w.add(k), closed, held, sets, links, viewlinks, k, link);
+        return causes(add(w, k), closed, held, sets, links, viewlinks, k, link);
     }
-    w.spoil()
+    spoil(w)
 }
 
 fn causes<'a>(
@@ -288,7 +274,7 @@ fn causes<'a>(
 ) -> Met
     requires { ⌜ (k < 16) × (1 ≤ link) × (link ≤ 8) × Tally w ⌝ }
     ensures tally { λ r. ⌜ Tally r ⌝ }
-    ensures same { λ r. ⌜ ((m : Machine) → Past m (now (closed .entry)) (now (held .entry)) (now (sets .entry)) (now (links .entry)) (now (viewlinks .entry)) → (depth : ℕ) → k ≤ depth → r ≡ each (λ j. visitOf depth m j (hopOf m k link j)) (causesHeld m k link) k 0 w) ⌝ }
+    ensures same { λ r. ⌜ ((m : State) → Past m (now (closed .entry)) (now (held .entry)) (now (sets .entry)) (now (links .entry)) (now (viewlinks .entry)) → (depth : ℕ) → k ≤ depth → r ≡ each (λ j. visitOf depth m j (hopOf m k link j)) (causesHeld m k link) k 0 w) ⌝ }
 {
     let set = sets[(link - 1) * 32 + k * 2];
     let mut out = w;
@@ -306,7 +292,7 @@ fn causes<'a>(
 }
 
 // The walk of a machine that is not broken.
-fn walk_unbroken(m: Machine, key: u8) -> Walked
+fn walk_unbroken(m: State, key: u8) -> Walked
     requires { ⌜ brokenOf m ≡ false ⌝ }
     ensures { λ r. ⌜ r ≡ walkOf m key ⌝ }
 {
@@ -340,14 +326,14 @@ fn walk_unbroken(m: Machine, key: u8) -> Walked
         k,
         link(view.store),
     );
-    walked.answer()
+    answer(walked)
 }
 
 // The walk back from a key, for every machine value; the caller's machine is what it was.
-pub fn walk(m: Machine, key: u8) -> Walked
+pub fn walk(m: State, key: u8) -> Walked
     ensures { λ r. ⌜ r ≡ walkOf m key ⌝ }
 {
-    if m.broken() {
+    if is_broken(m) {
         return refused(1);
     }
     walk_unbroken(m, key)

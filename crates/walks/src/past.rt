@@ -1,16 +1,16 @@
 // Machines with a past: interactions sent and received, some with causes.
 use machine::Machine;
-use machine::Setup;
-use rules::Recorder;
-use rules::Step;
+use protocol::Setup;
+use protocol::State;
+use protocol::Step;
 
-pub(crate) fn stepped(m: Machine, s: Step) -> Machine {
-    let r = Recorder { machine: m }.step(s);
+pub(crate) fn stepped(m: State, s: Step) -> State {
+    let r = Machine { state: m }.step(s);
     let after = r.machine;
-    after
+    after.state
 }
 
-pub(crate) fn sent(m: Machine, from: u8, to: u8, own: u8, causes: u16) -> Machine {
+pub(crate) fn sent(m: State, from: u8, to: u8, own: u8, causes: u16) -> State {
     stepped(
         m,
         Step::Send {
@@ -23,49 +23,51 @@ pub(crate) fn sent(m: Machine, from: u8, to: u8, own: u8, causes: u16) -> Machin
     )
 }
 
-pub(crate) fn received(m: Machine, key: u8) -> Machine {
+pub(crate) fn received(m: State, key: u8) -> State {
     stepped(m, Step::Receive { key: key })
 }
 
 // Setup M of document 01.
-pub(crate) fn two() -> Machine {
+pub(crate) fn two() -> State {
     let homes = [0, 1, 0, 0, 0, 0, 0, 0];
     let lists = [5, 6, 0, 0, 0, 0, 0, 0];
-    let made = Setup {
+    let made = Machine::setup(Setup {
         stores: 3,
         actors: 2,
         homes: homes,
         lists: lists,
-    }.setup();
-    made.machine
+    });
+    let fresh = made.machine;
+    fresh.state
 }
 
 // M with a third actor, home 2 list 6.
-pub(crate) fn three() -> Machine {
+pub(crate) fn three() -> State {
     let homes = [0, 1, 2, 0, 0, 0, 0, 0];
     let lists = [5, 6, 6, 0, 0, 0, 0, 0];
-    let made = Setup {
+    let made = Machine::setup(Setup {
         stores: 3,
         actors: 3,
         homes: homes,
         lists: lists,
-    }.setup();
-    made.machine
+    });
+    let fresh = made.machine;
+    fresh.state
 }
 
 // W12: S, receive, 1 sends to 0 own 1 cause 0.
-pub(crate) fn w12() -> Machine {
+pub(crate) fn w12() -> State {
     sent(received(sent(two(), 0, 1, 0, 0), 0), 1, 0, 1, 1)
 }
 
 // One link of a chain: the actors send in turn, each from its home.
-fn linked(m: Machine, key: u8, causes: u16) -> Machine {
+fn linked(m: State, key: u8, causes: u16) -> State {
     let from = key % 2;
     received(sent(m, from, 1 - from, from, causes), key)
 }
 
 // Sixteen interactions, each with the one before it as its cause.
-pub(crate) fn chain() -> Machine {
+pub(crate) fn chain() -> State {
     let mut m = two();
     let mut causes: u16 = 0;
     let mut key: u8 = 0;
@@ -78,7 +80,7 @@ pub(crate) fn chain() -> Machine {
 }
 
 // 3 has causes 1 and 2, and 1 and 2 each have cause 0.
-pub(crate) fn diamond() -> Machine {
+pub(crate) fn diamond() -> State {
     let zero = received(sent(three(), 0, 1, 0, 0), 0);
     let one = received(sent(zero, 1, 2, 1, 1), 1);
     let both = received(sent(one, 1, 2, 1, 1), 2);
@@ -86,7 +88,7 @@ pub(crate) fn diamond() -> Machine {
 }
 
 // The records of both views of 0 are sent and lost, so both move to store 2.
-pub(crate) fn lost() -> Machine {
+pub(crate) fn lost() -> State {
     let ready = stepped(w12(), Step::PreCheck { actor: 0 });
     let out = stepped(ready, Step::SendRecord { actor: 0 });
     let gone = stepped(
@@ -112,7 +114,7 @@ pub(crate) fn lost() -> Machine {
 }
 
 // The head of an actor's queue is recorded at a store and settles.
-fn settled(m: Machine, actor: u8, store: u8, key: u8, role: u8) -> Machine {
+fn settled(m: State, actor: u8, store: u8, key: u8, role: u8) -> State {
     let ready = stepped(m, Step::PreCheck { actor: actor });
     let out = stepped(ready, Step::SendRecord { actor: actor });
     let held = stepped(
@@ -135,7 +137,7 @@ fn settled(m: Machine, actor: u8, store: u8, key: u8, role: u8) -> Machine {
 }
 
 // 1 has cause 0 and is closed; the sender of 0 still waits.
-pub(crate) fn open() -> Machine {
+pub(crate) fn open() -> State {
     let zero = received(sent(three(), 0, 1, 0, 0), 0);
     let one = received(sent(zero, 1, 2, 1, 1), 1);
     let receipt = settled(one, 1, 1, 0, 1);

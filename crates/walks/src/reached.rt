@@ -1,7 +1,7 @@
 // Walks of machines that a run reaches.
 use crate::past;
 use crate::tell;
-use machine::Machine;
+use protocol::State;
 
 fn w12() {
     tell::walk(b"W12", past::w12(), 1);
@@ -13,8 +13,8 @@ fn w12() {
 
 // A new interaction is open, and what it rests on is walked as before.
 fn grown() {
-    let d = runs::drain(past::w12());
-    let m = d.machine;
+    let d = drain::drain(past::w12());
+    let m = d.state;
     let more = past::sent(m, 0, 1, 0, 2);
     tell::walk(b"W12 drained, one more sent", more, 2);
     tell::walk(b"W12 drained, one more sent", more, 1);
@@ -48,8 +48,8 @@ fn open() {
 }
 
 fn empty() {
-    tell::walk(b"empty machine", Machine::empty(), 0);
-    tell::walk(b"empty machine", Machine::empty(), 255);
+    tell::walk(b"empty machine", broken::fresh::empty(), 0);
+    tell::walk(b"empty machine", broken::fresh::empty(), 255);
     tell::walk(b"no interactions", past::two(), 0);
 }
 

@@ -1,16 +1,16 @@
 // Walks of values that no run reaches: W12 or the diamond, drained, with a slot changed by hand.
 use crate::past;
 use crate::tell;
-use machine::Contents;
-use machine::Entry;
-use machine::Links;
-use machine::Machine;
-use machine::Repair;
-use machine::Status;
+use protocol::Contents;
+use protocol::Entry;
+use protocol::Links;
+use protocol::Repair;
+use protocol::State;
+use protocol::Status;
 
-fn drained() -> Machine {
-    let d = runs::drain(past::w12());
-    let m = d.machine;
+fn drained() -> State {
+    let d = drain::drain(past::w12());
+    let m = d.state;
     m
 }
 
@@ -105,8 +105,8 @@ fn done() {
 
 // The cause link of 2 leads to store 0, which has no receipt of 0: on the way over 1 it is met before.
 fn met_again() {
-    let d = runs::drain(past::diamond());
-    let mut m = d.machine;
+    let d = drain::drain(past::diamond());
+    let mut m = d.state;
     let mut w = m.views[4];
     let l = Links { to: [0; 16] };
     w.links[0] = 0;

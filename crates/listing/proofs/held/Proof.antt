@@ -1,7 +1,7 @@
 -- `listing::held` meets its contract. What a store holds for a view; a store that isn't there holds nothing. Assumes nothing.
 use borrow.Author.Needs.{needs}
-use Rattle.listing.specs.Listing.{heldOf}
-use Rattle.machine.proofs.Tests.{tests}
+use Rattle.protocol.specs.Listing.{heldOf}
+use Rattle.unbroken.proofs.Tests.{tests}
 use Rattle.listing.proofs.held.Statement.{statement}
 use Rattle.listing.proofs.held.Tie as tie
 

@@ -5,9 +5,9 @@ use native.Mathlib.Nat.{add-zero}
 use native.Mathlib.Omega.{arith}
 use lib.ListN.{length-map}
 use borrow.Author.Tests.{le-leb, lt-leb}
-use Rattle.machine.proofs.Laws.{unbroken}
-use Rattle.walk.specs.Walk.{walkedFrom, walkOf}
-use Rattle.walk.proofs.Counted.{tally-unmet}
+use Rattle.unbroken.proofs.Laws.{unbroken}
+use Rattle.protocol.specs.Walk.{walkedFrom, walkOf}
+use Rattle.reaches.proofs.Counted.{tally-unmet}
 use Rattle.walk.proofs.Taken.{taken}
 use borrow.Author.Needs.{needs}
 use Rattle.walk.proofs.walk_unbroken.Statement.{statement}

@@ -4,7 +4,7 @@ use mathlib.Core.Path.{_≡_}
 use native.Mathlib.Omega.{arith}
 use borrow.Author.Needs.{needs}
 use lib.ListN.{length}
-use Rattle.runs.proofs.Some.{Putting, put-start, put-step, put-end}
+use Rattle.reads.proofs.Some.{Putting, put-start, put-step, put-end}
 use Rattle.runs.proofs.batch.put_all.Statement.{statement}
 use Rattle.runs.proofs.batch.put_all.Tie as tie
 

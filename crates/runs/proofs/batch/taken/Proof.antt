@@ -5,7 +5,7 @@ use native.Mathlib.Omega.{arith}
 use borrow.Author.Needs.{needs}
 use lib.Dec.{eqb}
 use lib.ListN.{length, getD}
-use Rattle.runs.proofs.Some.{Counting, one-low, count-start, count-step, count-end}
+use Rattle.reads.proofs.Some.{Counting, one-low, count-start, count-step, count-end}
 use Rattle.runs.proofs.batch.taken.Statement.{statement}
 use Rattle.runs.proofs.batch.taken.Tie as tie
 

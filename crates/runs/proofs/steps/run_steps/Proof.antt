@@ -3,10 +3,16 @@
 use Prim.Native.Nat.{_-_}
 use native.Mathlib.Omega.{arith}
 use borrow.Author.Needs.{needs}
-use Rattle.keeps.proofs.Keeps.{step-keeps}
+use mathlib.Core.Path.{ap}
+use Rattle.protocol.specs.Steps.{Many as Several}
+use Rattle.machine.specs.declared.Many.{Many}
 use Rattle.runs.proofs.Running.{Running, run-start, run-batch, run-none, run-end}
 use Rattle.runs.proofs.steps.run_steps.Statement.{statement}
 use Rattle.runs.proofs.steps.run_steps.Tie as tie
+
+-- the machine after some steps, as a state
+abbrev several : Many → Several
+several r = record { state = r .machine .state; answers = r .answers }
 
 abbrev Inv-loop : tie.InvT-loop
 Inv-loop s n from answers₀ at₀ m₀ i₀ taken₀ answers at m i taken = Running s n answers₀ from m₀ answers at m i taken
@@ -36,7 +42,7 @@ load-requires : tie.Need-load-requires Inv-loop μ-loop
 load-requires c κs = omega (arith, c .before .reach .ensures .0, c .before .before .wanted .ensures .1)
 
 steps-unbroken-requires : tie.Need-steps-unbroken-requires Inv-loop μ-loop
-steps-unbroken-requires c κs = ((omega (arith, c .before .before .reach .ensures .0, c .before .before .before .wanted .ensures .1), c .before .before .before .before .before .loop .inv .unbroken), step-keeps)
+steps-unbroken-requires c κs = (omega (arith, c .before .before .reach .ensures .0, c .before .before .before .wanted .ensures .1), c .before .before .before .before .before .loop .inv .unbroken)
 
 cast-put-all : tie.Need-cast-put-all Inv-loop μ-loop
 cast-put-all c = search needs
@@ -51,16 +57,16 @@ add-taken : tie.Need-add-taken Inv-loop μ-loop
 add-taken c = omega (arith, c .taken .ensures .1, c .before .before .before .before .before .before .before .before .before .reach .ensures .0, c .before .before .before .before .before .before .before .before .before .before .wanted .ensures .0, c .before .before .before .before .before .before .before .before .before .before .before .before .loop .inv .few, c .before .before .before .before .before .before .before .before .before .before .before .before .loop .inv .low)
 
 cast-i : tie.Need-cast-i Inv-loop μ-loop
-cast-i c = omega (arith, c .before .before .before .before .before .before .before .before .before .before .reach .ensures .0, c .before .before .before .before .before .before .before .before .before .before .before .wanted .ensures .1)
+cast-i c = omega (arith, c .before .before .before .before .before .before .before .before .before .before .before .reach .ensures .0, c .before .before .before .before .before .before .before .before .before .before .before .before .wanted .ensures .1)
 
 add-i : tie.Need-add-i Inv-loop μ-loop
-add-i c = omega (arith, c .before .before .before .before .before .before .before .before .before .before .reach .ensures .0, c .before .before .before .before .before .before .before .before .before .before .before .wanted .ensures .0, c .before .before .before .before .before .before .before .before .before .before .before .before .before .loop .inv .low)
+add-i c = omega (arith, c .before .before .before .before .before .before .before .before .before .before .before .reach .ensures .0, c .before .before .before .before .before .before .before .before .before .before .before .before .wanted .ensures .0, c .before .before .before .before .before .before .before .before .before .before .before .before .before .before .loop .inv .low)
 
 loop-less : tie.Need-loop-less Inv-loop μ-loop
-loop-less c = omega (arith, c .before .before .before .before .before .before .before .before .before .if1 .left, c .before .before .before .before .before .before .before .before .before .before .reach .ensures .0, c .before .before .before .before .before .before .before .before .before .before .before .wanted .ensures .0, c .before .before .before .before .before .before .before .before .before .before .before .before .loop-test .taken)
+loop-less c = omega (arith, c .before .before .before .before .before .before .before .before .before .before .if1 .left, c .before .before .before .before .before .before .before .before .before .before .before .reach .ensures .0, c .before .before .before .before .before .before .before .before .before .before .before .before .wanted .ensures .0, c .before .before .before .before .before .before .before .before .before .before .before .before .before .loop-test .taken)
 
 loop-again : tie.Need-loop-again Inv-loop μ-loop
-loop-again c = run-batch (c .before .before .before .before .before .before .before .before .before .before .before .before .before .loop .inv) (c .before .before .before .before .before .before .before .before .load .result) (omega (arith, c .before .before .before .before .before .before .before .before .before .before .reach .ensures .0, c .before .before .before .before .before .before .before .before .before .before .before .wanted .ensures .0, c .before .before .before .before .before .before .before .before .before .before .before .before .before .loop .inv .low)) (c .before .before .before .before .before .before .before .before .before .before .reach .ensures .1 .0) (c .before .before .before .before .before .before .before .before .before .before .reach .ensures .1 .1 .0) (c .before .before .before .before .before .before .before .before .load .ensures) (c .before .before .before .before .before .before .before .steps-unbroken .ensures) (c .before .before .before .before .put-all .ensures) (c .before .taken .ensures)
+loop-again c = run-batch (c .before .before .before .before .before .before .before .before .before .before .before .before .before .before .loop .inv) (c .before .before .before .before .before .before .before .before .before .load .result) (omega (arith, c .before .before .before .before .before .before .before .before .before .before .before .reach .ensures .0, c .before .before .before .before .before .before .before .before .before .before .before .before .wanted .ensures .0, c .before .before .before .before .before .before .before .before .before .before .before .before .before .before .loop .inv .low)) (c .before .before .before .before .before .before .before .before .before .before .before .reach .ensures .1 .0) (c .before .before .before .before .before .before .before .before .before .before .before .reach .ensures .1 .1 .0) (c .before .before .before .before .before .before .before .before .before .load .ensures) (ap several (c .before .before .before .before .before .before .before .before .steps-unbroken .ensures)) (c .before .before .before .before .before .put-all .ensures) (c .before .before .taken .ensures)
 
 same-length-2 : tie.Need-same-length-2 Inv-loop μ-loop
 same-length-2 c = c .before .loop .inv .long

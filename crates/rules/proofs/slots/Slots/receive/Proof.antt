@@ -3,7 +3,7 @@ use mathlib.Core.Path.{refl}
 use borrow.Author.Tests.{eq-eqb, ne-eqb}
 use native.Mathlib.Omega.{arith}
 use lib.Seq.{set-getD}
-use Rattle.rules.specs.Receive.{receiveNo, receivedOf}
+use Rattle.protocol.specs.Receive.{receiveNo, receivedOf}
 use Rattle.rules.proofs.Standing.{refuses, grants, beside-key, key-of, role-of}
 use borrow.Author.Needs.{needs}
 use Rattle.rules.proofs.slots.Slots.receive.Statement.{statement}

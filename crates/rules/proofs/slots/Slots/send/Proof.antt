@@ -8,12 +8,12 @@ use native.Mathlib.Omega.{arith}
 use borrow.Author.Tests.{eq-eqb, le-leb, lt-leb, lt-ltb, ne-eqb}
 use lib.ListN.{set}
 use lib.Seq.{set-getD}
-use Rattle.machine.specs.Slots.{queue}
-use Rattle.machine.specs.Writes.{withMade, withMessage, withQueue, withViews}
+use Rattle.protocol.specs.Slots.{queue}
+use Rattle.protocol.specs.Writes.{withMade, withMessage, withQueue, withViews}
 use Rattle.rules.specs.About.{aboutOf, nextView}
-use Rattle.rules.specs.Send.{awaitedView, joined, sendNo, sent, sentView}
+use Rattle.protocol.specs.Send.{awaitedView, joined, sendNo, sent, sentView}
 use Rattle.rules.specs.Slots.{pastAbout, slotsAt}
-use Rattle.rules.specs.declared.Step.the-variants.{Send}
+use Rattle.protocol.specs.declared.Step.the-variants.{Send}
 use Rattle.rules.proofs.Standing.{refuses, grants}
 use borrow.Author.Needs.{needs}
 use Rattle.rules.proofs.slots.Slots.send.Statement.{statement}

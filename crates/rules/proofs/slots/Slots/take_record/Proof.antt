@@ -2,7 +2,7 @@
 use mathlib.Core.Path.{refl}
 use borrow.Author.Tests.{eq-eqb, ne-eqb}
 use lib.Seq.{set-getD}
-use Rattle.rules.specs.TakeRecord.{takeRecordNo, recordTaken}
+use Rattle.protocol.specs.TakeRecord.{takeRecordNo, recordTaken}
 use Rattle.rules.proofs.Inside.{role-of-place}
 use Rattle.rules.proofs.Standing.{refuses, grants, key-of, role-of, beside-place}
 use borrow.Author.Needs.{needs}

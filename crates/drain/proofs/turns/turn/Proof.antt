@@ -1,0 +1,56 @@
+-- Each exit by the tests before it, which speak of the lowest that the searches found. Assumes nothing.
+use Prim.Native.Nat.{ℕ}
+use mathlib.Core.Path.{_≡_, refl, _∙_}
+use mathlib.Core.List.{List}
+use denote.Ref.{now}
+use borrow.Author.Tests.{lt-ltb, le-ltb}
+use borrow.Author.Needs.{needs}
+use Rattle.protocol.specs.Writes.{withUpdates, withUacks}
+use Rattle.protocol.specs.declared.State.{State}
+use Rattle.protocol.specs.Drain.{jobStep, entryStep, turnOf}
+use Rattle.drain.proofs.turns.turn.Statement.{statement}
+use Rattle.drain.proofs.turns.turn.Tie as tie
+
+-- the actors' steps don't look at updates and uacks
+job-apart : (m : State) (updates uacks : List ℕ) (a : ℕ) → jobStep m a ≡ jobStep (withUacks (withUpdates m updates) uacks) a
+unfolding jobStep
+job-apart m updates uacks a = refl
+
+unreceived-requires : tie.Need-unreceived-requires
+unreceived-requires c κs = search needs
+
+returns : tie.Need-returns
+unfolding turnOf
+returns c = simp (← c .before .before .unreceived .ensures, lt-ltb _ _ (c .if1 .taken))
+
+busy-requires : tie.Need-busy-requires
+busy-requires c κs = search needs
+
+job-step-requires : tie.Need-job-step-requires
+job-step-requires c κs = search needs
+
+returns-2 : tie.Need-returns-2
+unfolding turnOf
+returns-2 c =
+    let start = c .before .before .before .before .before .before .before .before .before in
+    let job = c .job-step .ensures ∙ job-apart _ (now (start .args .updates)) (now (start .args .uacks)) _ in
+    simp (← c .before .before .before .before .before .before .before .unreceived .ensures, le-ltb _ _ (c .before .before .before .before .before .if1 .left), ← c .before .before .before .busy .ensures, lt-ltb _ _ (c .before .if2 .taken), job)
+
+coordinator-turn-requires : tie.Need-coordinator-turn-requires
+coordinator-turn-requires c κs = search needs
+
+returns-3 : tie.Need-returns-3
+unfolding turnOf entryStep
+returns-3 c = simp (← c .before .before .before .before .before .before .before .unreceived .ensures, le-ltb _ _ (c .before .before .before .before .before .if1 .left), ← c .before .before .before .busy .ensures, le-ltb _ _ (c .before .if2 .left), c .coordinator-turn .ensures)
+
+pub turn-spec : {M : Type 1} → statement M
+turn-spec =
+    tie.close
+    (tie.spec
+    unreceived-requires
+    returns
+    busy-requires
+    job-step-requires
+    returns-2
+    coordinator-turn-requires
+    returns-3)

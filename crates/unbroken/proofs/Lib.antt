@@ -1,0 +1,4 @@
+pub mod Fill
+pub mod Laws
+pub mod Pass
+pub mod Tests
