@@ -1,12 +1,14 @@
 -- The drain's loop: what is still to come from here, with the steps that were taken, is the whole course. Assumes nothing.
 use Prim.Native.Nat.{ℕ, suc, _+_, _-_, _≤_, _<_}
-use mathlib.Core.Path.{_≡_, sym, ap, _∙_}
+use mathlib.Core.Path.{_≡_, refl, sym, ap, _∙_}
 use mathlib.Core.Bool.{false}
+use mathlib.Core.List.{[], _∷_}
 use native.Mathlib.Omega.{arith}
 use lib.ListN.{length}
 use Rattle.protocol.specs.Broken.{brokenOf}
 use Rattle.protocol.specs.declared.State.{State}
 use Rattle.protocol.specs.Step.{stepOf}
+use Rattle.protocol.specs.Steps.{ran}
 use Rattle.protocol.specs.declared.Step.{Step}
 use Rattle.keeps.proofs.Keeps.{step-keeps}
 use Rattle.protocol.specs.declared.Turn.{Turn}
@@ -24,6 +26,11 @@ pub going-start : (f : ℕ) (from : State) → brokenOf from ≡ false → Going
 going-start f from whole =
     let q : f - 0 ≡ f = omega arith in
     record { low = omega arith; whole = whole; state = rw q; count = rw q (omega arith) }
+
+-- one step is the first of some
+pub once : (m : State) (step : Step) → ran m (step ∷ []) ≡ stepOf m step .state
+unfolding ran
+once m step = refl
 
 -- one turn of the definition
 turn-of : (f : ℕ) (m : State) (t : Turn) → turnOf m ≡ t → course (suc f) m ≡ onTurn t (stays m) (λ step. after step (course f (stepOf m step .state)))

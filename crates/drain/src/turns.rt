@@ -7,7 +7,6 @@ ghost use Rattle.protocol.specs.Words.{all};
 ghost use Rattle.unbroken.specs.Bounds.{Bounds};
 ghost use Rattle.protocol.specs.Broken.{brokenOf};
 ghost use Rattle.protocol.specs.Slots.{place, noQueue, noView, noEntry};
-ghost use Rattle.protocol.specs.Writes.{withRecords, withAcks, withUpdates, withUacks};
 ghost use Rattle.protocol.specs.Drain.{lowest, unreceivedIn, busyIn, otherIn, awaitingIn, jobStep, repairIn, isUnfinished, unfinishedIn, entryIn};
 ghost use Rattle.protocol.specs.Drain.{coordinatorTurn, turnOf, course, upIn, drained};
 use machine::Answered;
@@ -81,9 +80,9 @@ fn spare(stores: u8, list: u8, current: u8) -> u8
 }
 
 // A view's copies in flight at a store.
-fn copies(counts: &[u8; 256], p: u8, v: u8) -> u8
+fn copies(counts: [u8; 256], p: u8, v: u8) -> u8
     requires { ⌜ (p < 8) × (v < 32) ⌝ }
-    ensures { λ r. ⌜ r ≡ getD (now (counts .entry)) (place p v) 0 ⌝ }
+    ensures { λ r. ⌜ r ≡ getD counts (place p v) 0 ⌝ }
 {
     counts[p as usize * 32 + v as usize]
 }
@@ -130,10 +129,10 @@ fn awaiting_step(stores: u8, list: u8, actor: u8, v: u8, p: u8, acks: u8, record
 }
 
 // The head of the queue: phase 1 pre-check, phase 2 send, phase 4 post-check.
-fn job_step<'a>(m: State, acks: &'a [u8; 256], records: &'a [u8; 256], actor: u8) -> Step
+fn job_step(m: State, actor: u8) -> Step
     requires { ⌜ Bounds m ⌝ }
     requires { ⌜ actor < m .actors ⌝ }
-    ensures { λ r. ⌜ r ≡ jobStep (withRecords (withAcks m (now (acks .entry))) (now (records .entry))) actor ⌝ }
+    ensures { λ r. ⌜ r ≡ jobStep m actor ⌝ }
 {
     let queues = m.queues;
     let v = head_of(queues, actor);
@@ -150,6 +149,8 @@ fn job_step<'a>(m: State, acks: &'a [u8; 256], records: &'a [u8; 256], actor: u8
     }
     let p = w.store;
     let lists = m.lists;
+    let acks = m.acks;
+    let records = m.records;
     awaiting_step(
         m.stores,
         lists[actor as usize],
@@ -246,9 +247,9 @@ fn entry_of(entries: [Entry; 32], v: u8) -> Entry
 }
 
 // (c) a repair, then (d) an entry.
-fn coordinator_turn<'a>(m: State, updates: &'a [u8; 256], uacks: &'a [u8; 256]) -> Turn
+fn coordinator_turn(m: State) -> Turn
     requires { ⌜ Bounds m ⌝ }
-    ensures { λ r. ⌜ r ≡ coordinatorTurn (withUacks (withUpdates m (now (updates .entry))) (now (uacks .entry))) ⌝ }
+    ensures { λ r. ⌜ r ≡ coordinatorTurn m ⌝ }
 {
     let end = m.made * 2;
     let repairs = m.repairs;
@@ -264,22 +265,17 @@ fn coordinator_turn<'a>(m: State, updates: &'a [u8; 256], uacks: &'a [u8; 256]) 
     if u < end {
         let e = entry_of(entries, u);
         let p = e.destination;
+        let uacks = m.uacks;
+        let updates = m.updates;
         return Turn::Take(entry_step(u, e, copies(uacks, p, u), copies(updates, p, u)));
     }
     Turn::Rest
 }
 
-// The first step that applies, with these copies in flight. A machine that is read at a place known only here would be
-// copied first, so it hands over whole arrays, and the counts are lent.
-fn turn<'a>(
-    m: State,
-    acks: &'a [u8; 256],
-    records: &'a [u8; 256],
-    updates: &'a [u8; 256],
-    uacks: &'a [u8; 256],
-) -> Turn
+// The first step that applies.
+fn turn(m: State) -> Turn
     requires { ⌜ Bounds m ⌝ }
-    ensures { λ r. ⌜ r ≡ turnOf (withUacks (withUpdates (withRecords (withAcks m (now (acks .entry))) (now (records .entry))) (now (updates .entry))) (now (uacks .entry))) ⌝ }
+    ensures { λ r. ⌜ r ≡ turnOf m ⌝ }
 {
     let views = m.views;
     let key = unreceived(m.made, views);
@@ -289,9 +285,9 @@ fn turn<'a>(
     let queues = m.queues;
     let actor = busy(m.actors, queues);
     if actor < m.actors {
-        return Turn::Take(job_step(m, acks, records, actor));
+        return Turn::Take(job_step(m, actor));
     }
-    coordinator_turn(m, updates, uacks)
+    coordinator_turn(m)
 }
 
 // A store of the machine is up; behind the last there is none.
@@ -318,7 +314,8 @@ pub(crate) fn all_up(stores: u8, up: [bool; 8]) -> bool
     true
 }
 
-// Turns, one after another, at most 18 for each interaction.
+// Turns, one after another, at most 18 for each interaction. The machine stays where it is: the call reads it there and
+// writes it there.
 pub(crate) fn turns(from: State) -> Drained
     requires { ⌜ brokenOf from ≡ false ⌝ }
     ensures { λ r. ⌜ r ≡ drained (course (from .made * 18) from) ⌝ }
@@ -328,13 +325,7 @@ pub(crate) fn turns(from: State) -> Drained
     let mut r = Answered { machine, answer: 0 };
     let mut count: u16 = 0;
     while count < limit {
-        let t = turn(
-            r.machine.state,
-            &r.machine.state.acks,
-            &r.machine.state.records,
-            &r.machine.state.updates,
-            &r.machine.state.uacks,
-        );
+        let t = turn(r.machine.state);
         let Turn::Take(step) = t else {
             let m = r.machine;
             let state = m.state;
@@ -344,8 +335,11 @@ pub(crate) fn turns(from: State) -> Drained
                 count: count,
             };
         };
-        let m = r.machine;
-        r = m.step_unbroken(step);
+        let none = Step::Crash { store: 0 };
+        let mut steps = [none; 16];
+        steps[0] = step;
+        let mut room = [0u8; 1];
+        r = r.machine.steps_unbroken(steps, 1, &mut room, 0);
         count += 1;
     }
     let m = r.machine;

@@ -24,12 +24,6 @@ pub struct Answered {
     pub answer: u8,
 }
 
-// The machine after some steps, and the number of each.
-pub struct Many {
-    pub machine: Machine,
-    pub answers: [u8; 64],
-}
-
 impl Machine {
     // No stores, actors or interactions.
     pub fn empty() -> Machine

@@ -1,4 +1,4 @@
-// One step: the slots that it is about are read, its rule is applied to them, and they are written.
+// One step by value: the first of some.
 ghost use mathlib.Core.Bool.{false};
 ghost use mathlib.Core.Path.{_≡_};
 ghost use Rattle.protocol.specs.Broken.{brokenOf};
@@ -6,16 +6,7 @@ ghost use Rattle.protocol.specs.Step.{stepOf};
 ghost use Rattle.machine.specs.Given.{given};
 use crate::Answered;
 use crate::Machine;
-use crate::about::about_of;
-use crate::about::actor_of;
-use crate::about::made_of;
-use crate::about::names_outside;
-use crate::about::store_of;
-use crate::about::view_of;
-use crate::past::no_past;
 use protocol::Step;
-use rules::past::look_back;
-use rules::slots::Slots;
 
 impl Machine {
     // The step, not tested for a broken value again: for the drain, which knows the machine to be unbroken.
@@ -23,91 +14,10 @@ impl Machine {
         requires { ⌜ brokenOf (self .state) ≡ false ⌝ }
         ensures { λ r. ⌜ r ≡ given (stepOf (self .state) s) ⌝ }
     {
-        let mut m = self.state;
-        if names_outside(s, m.stores, m.actors, m.made) {
-            return self.refused(2);
-        }
-        let b = about_of(s);
-        let named = m.queues[b.actor as usize];
-        let v = view_of(b.acting, b.making, m.made, named.views[0], b.view);
-        let w = m.views[v];
-        let e = m.entries[v];
-        let a = actor_of(b.acting, b.actor, w.actor);
-        let p = store_of(b.whose, b.store, w.store, e.destination);
-        let k = v / 2;
-        let o = k * 2 + (1 - v % 2);
-        let at = p * 32 + v;
-        let over = p * 32 + o;
-        let sender = p * 16 + k;
-        let queue = m.queues[a];
-        let message = m.messages[k];
-        let repair = m.repairs[v];
-        let facing = m.views[o];
-        let other = m.entries[o];
-        let contents = m.contents[at];
-        let links = m.links[sender];
-        let mut past = no_past();
-        if b.back {
-            let views = m.views;
-            past = look_back(views, m.made, b.actor, b.causes, w);
-        }
-        let x = Slots {
-            number: v,
-            store: p as u8,
-            home: m.homes[a],
-            list: m.lists[a],
-            far: m.homes[b.other as usize],
-            past,
-            made: m.made,
-            queue,
-            message,
-            view: w,
-            repair,
-            entry: e,
-            facing,
-            other,
-            up: m.up[p],
-            records: m.records[at],
-            acks: m.acks[at],
-            updates: m.updates[at],
-            uacks: m.uacks[at],
-            contents,
-            links,
-            viewlink: m.viewlinks[at],
-            across: m.viewlinks[over],
-        };
-        let t = x.rule(s);
-        let y = t.slots;
-        let queue = y.queue;
-        let message = y.message;
-        let view = y.view;
-        let repair = y.repair;
-        let entry = y.entry;
-        let facing = y.facing;
-        let other = y.other;
-        let contents = y.contents;
-        let links = y.links;
-        m.made = made_of(b.making, y.made, m.made);
-        m.queues[a] = queue;
-        m.messages[k] = message;
-        m.views[v] = view;
-        m.views[o] = facing;
-        m.repairs[v] = repair;
-        m.entries[v] = entry;
-        m.entries[o] = other;
-        m.up[p] = y.up;
-        m.records[at] = y.records;
-        m.acks[at] = y.acks;
-        m.updates[at] = y.updates;
-        m.uacks[at] = y.uacks;
-        m.contents[at] = contents;
-        m.links[sender] = links;
-        m.viewlinks[at] = y.viewlink;
-        m.viewlinks[over] = y.across;
-        let machine = Machine { state: m };
-        Answered {
-            machine,
-            answer: t.answer,
-        }
+        let none = Step::Crash { store: 0 };
+        let mut steps = [none; 16];
+        steps[0] = s;
+        let mut room = [0u8; 1];
+        self.steps_unbroken(steps, 1, &mut room, 0)
     }
 }

@@ -1,12 +1,14 @@
-// Steps one after another, for the run, which takes the steps of a book by sixty-four.
+// Steps one after another, for the run, which takes the steps of a book by sixteen.
 ghost use mathlib.Core.Bool.{false};
 ghost use mathlib.Core.Path.{_≡_};
-ghost use Prim.Native.Nat.{_≤_};
+ghost use Prim.Native.Nat.{_+_, _-_, _≤_, _<_};
+ghost use lib.ListN.{length, take};
+ghost use lib.Seq.{sets};
 ghost use Rattle.protocol.specs.Broken.{brokenOf};
-ghost use Rattle.protocol.specs.Steps.{manyOf};
-ghost use Rattle.machine.specs.Given.{givenMany};
+ghost use Rattle.protocol.specs.Steps.{answers};
+ghost use Rattle.machine.specs.Given.{given, lastOf};
+use crate::Answered;
 use crate::Machine;
-use crate::Many;
 use crate::about::about_of;
 use crate::about::actor_of;
 use crate::about::made_of;
@@ -19,19 +21,24 @@ use rules::past::look_back;
 use rules::slots::Slots;
 
 impl Machine {
-    // The first n steps, for who knows the machine to be unbroken. Of the machine only the slots
-    // that a step is about are read and written, where they stand.
-    pub fn steps_unbroken(self, steps: [Step; 64], n: usize) -> Many
-        requires { ⌜ (n ≤ 64) × (brokenOf (self .state) ≡ false) ⌝ }
-        ensures { λ r. ⌜ r ≡ givenMany (manyOf (self .state) steps n) ⌝ }
+    // The first n steps, for who knows the machine to be unbroken; their numbers go where they are lent to, from a place on, and
+    // the last is handed back. Of the machine only the slots that a step is about are read and written, where they stand.
+    pub fn steps_unbroken(
+        self,
+        steps: [Step; 16],
+        n: usize,
+        room: &mut [u8],
+        from: usize,
+    ) -> Answered
+        requires { ⌜ (0 < n) × (n ≤ 16) × (from + n ≤ length (now room)) × (brokenOf (self .state) ≡ false) ⌝ }
+        ensures { λ r. ⌜ (r ≡ given (lastOf (self .state) (take n steps) from (n - 1) (now (room .entry)))) × (now (room .exit) ≡ sets (now (room .entry)) from (answers (self .state) (take n steps))) ⌝ }
     {
         let mut m = self.state;
-        let mut answers = [0u8; 64];
         let mut i: usize = 0;
         while i < n {
             let s = steps[i];
             if names_outside(s, m.stores, m.actors, m.made) {
-                answers[i] = 2;
+                room[from + i] = 2;
                 i += 1;
                 continue;
             }
@@ -112,10 +119,13 @@ impl Machine {
             m.links[sender] = links;
             m.viewlinks[at] = y.viewlink;
             m.viewlinks[over] = y.across;
-            answers[i] = t.answer;
+            room[from + i] = t.answer;
             i += 1;
         }
         let machine = Machine { state: m };
-        Many { machine, answers }
+        Answered {
+            machine,
+            answer: room[from + (n - 1)],
+        }
     }
 }

@@ -3,13 +3,13 @@
 use Prim.Native.Nat.{ℕ, suc, _+_, _-_, _≤_, _<_}
 use mathlib.Core.Path.{_≡_, refl, sym, ap, _∙_}
 use mathlib.Core.Bool.{Bool, true, false}
-use mathlib.Core.List.{List, [], _∷_, _++_, append-nil}
+use mathlib.Core.List.{List, [], _∷_, _++_, append-nil, append-assoc}
 use native.Mathlib.Numerals.{add-one}
 use native.Mathlib.Omega.{arith}
 use native.Mathlib.Nat.{add-assoc, le-antisymm, zero-add}
 use lib.Dec.{eqb}
-use lib.ListN.{length, take, drop, getD, set, length-set, length-append}
-use lib.Seq.{sets, take-suc-set, append-snoc, drop-cons, getD-take, length-take-le, drop-length}
+use lib.ListN.{length, take, drop, getD, set, length-set, length-append, length-drop}
+use lib.Seq.{sets, sets-eq, take-suc-set, append-snoc, drop-cons, getD-take, getD-drop, length-take-le, drop-length, take-at, drop-at}
 use Rattle.protocol.specs.Words.{one, times}
 use Rattle.protocol.specs.Broken.{brokenOf}
 use Rattle.protocol.specs.declared.State.{State}
@@ -52,11 +52,11 @@ module _ {s : List ℕ} {p₀ n p i : ℕ} (h : Reaching s p₀ n p i) where
 -- the steps read so far, and those that are left from here, are all
 pub record Loading (s : List ℕ) (p₀ n : ℕ) (steps : List Step) (p i : ℕ) : Type 0 where
   pub low : i ≤ n
-  pub few : n ≤ 64
-  pub sized : length steps ≡ 64
+  pub few : n ≤ 16
+  pub sized : length steps ≡ 16
   pub same : take i steps ++ stepsFrom s (n - i) p ≡ stepsFrom s n p₀
 
-pub load-start : {s : List ℕ} {p n : ℕ} {steps : List Step} → n ≤ 64 → length steps ≡ 64 → Loading s p n steps p 0
+pub load-start : {s : List ℕ} {p n : ℕ} {steps : List Step} → n ≤ 16 → length steps ≡ 16 → Loading s p n steps p 0
 load-start {s} {p} {n} f l = let e : n - 0 ≡ n = omega arith in record { low = omega arith; few = f; sized = l; same = rw e }
 
 module _ {s : List ℕ} {p₀ n : ℕ} {steps : List Step} {p i : ℕ} (h : Loading s p₀ n steps p i) where
@@ -96,37 +96,11 @@ none-left : (given : List ℕ) (n j : ℕ) → n ≤ length given → j ≤ n �
 none-left given n j fits low b =
     ap (λ (k : ℕ). drop k (take n given)) (le-antisymm low b ∙ sym (length-take-le n given fits)) ∙ drop-length (take n given)
 
--- the answers that are left to write from here give what all give from the start
-pub record Putting (a₀ : List ℕ) (i : ℕ) (given : List ℕ) (n : ℕ) (a : List ℕ) (j : ℕ) : Type 0 where
-  pub low : j ≤ n
-  pub sized : n ≤ length given
-  pub long : length a ≡ length a₀
-  pub same : sets a (i + j) (drop j (take n given)) ≡ sets a₀ i (take n given)
-
-pub put-start : {a : List ℕ} {i : ℕ} {given : List ℕ} {n : ℕ} → n ≤ length given → Putting a i given n a 0
-put-start {a} {i} {given} {n} f =
-    let e : i + 0 ≡ i = omega arith in
-    record { low = omega arith; sized = f; long = refl; same = rw e }
-
-module _ {a₀ : List ℕ} {i : ℕ} {given : List ℕ} {n : ℕ} {a : List ℕ} {j : ℕ} (h : Putting a₀ i given n a j) where
-  pub put-step : {b : List ℕ} → j < n → b ≡ set a (i + j) (getD given j 0) → Putting a₀ i given n b (j + 1)
-  put-step {b} l w =
-      let e : i + (j + 1) ≡ suc (i + j) = omega arith in
-      record {
-        low = omega arith;
-        sized = h .sized;
-        long = ap length w ∙ (length-set a (i + j) (getD given j 0) ∙ h .long);
-        same = rw (w, e) (rw (left-is given n j (h .sized) l) at (h .same));
-      }
-
-  pub put-end : n ≤ j → a ≡ sets a₀ i (take n given)
-  put-end b = rw (none-left given n j (h .sized) (h .low) b) at (h .same)
-
 pub one-low : (b : Bool) → one b ≤ 1
 one-low true = omega arith
 one-low false = omega arith
 
--- and so with their count
+-- the answers that are left to count from here give what all give from the start
 pub record Counting (given : List ℕ) (n count j : ℕ) : Type 0 where
   pub low : j ≤ n
   pub few : count ≤ j
@@ -177,3 +151,12 @@ pub ran-keeps : (m : State) (xs : List Step) → brokenOf m ≡ false → broken
 unfolding ran
 ran-keeps m [] e = e
 ran-keeps m (x ∷ xs) e = ran-keeps (stepOf m x .state) xs (step-keeps m x e)
+
+-- what was set from a place on stands there
+pub set-there : (a : List ℕ) (i : ℕ) (xs : List ℕ) {c : ℕ} → length xs ≡ c → i + c ≤ length a → take c (drop i (sets a i xs)) ≡ xs
+set-there a i xs {c} l h =
+    let k : i ≤ length a = omega arith in
+    let f : i + length xs ≤ length a = omega arith in
+    let rest = drop (i + length xs) a in
+    let e : drop i (sets a i xs) ≡ xs ++ rest = ap (drop i) (sets-eq xs a i f ∙ append-assoc (take i a) xs rest) ∙ drop-at (take i a) (xs ++ rest) i (length-take-le i a k) in
+    ap (take c) e ∙ take-at xs rest c l

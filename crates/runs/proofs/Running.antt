@@ -5,12 +5,11 @@ use mathlib.Core.Path.{_≡_, refl, sym, ap, _∙_}
 use mathlib.Core.Bool.{false}
 use mathlib.Core.List.{List, [], _∷_, _++_}
 use native.Mathlib.Omega.{arith}
-use lib.ListN.{length, take, drop, replicate, length-append}
-use lib.Seq.{sets, sets-eq, length-sets, take-at}
+use lib.ListN.{length, take, drop, length-append}
+use lib.Seq.{sets, sets-eq, length-sets}
 use Rattle.protocol.specs.Words.{times}
 use Rattle.protocol.specs.Broken.{brokenOf}
 use Rattle.protocol.specs.declared.State.{State}
-use Rattle.protocol.specs.Steps.{Many, manyOf}
 use Rattle.protocol.specs.declared.Step.{Step}
 use Rattle.protocol.specs.declared.Read.{Read}
 use Rattle.protocol.specs.declared.Read.the-variants.{Got, Bad}
@@ -18,7 +17,7 @@ use Rattle.protocol.specs.Book.{readStep, stepsFrom, onRead}
 use Rattle.protocol.specs.Run.{ran, answers, filled, fullRun}
 use Rattle.reads.proofs.Formed.{answers-length}
 use Rattle.reads.proofs.Reading.{steps-bad, steps-end}
-use Rattle.reads.proofs.Some.{ran-append, answers-append, times-append, sets-append, ran-keeps}
+use Rattle.reads.proofs.Some.{ran-append, answers-append, times-append, sets-append, set-there, ran-keeps}
 
 pub record Running (s : List ℕ) (n : ℕ) (a₀ : List ℕ) (p₀ : ℕ) (m₀ : State) (a : List ℕ) (p : ℕ) (m : State) (i taken : ℕ) : Type 0 where
   pub low : i ≤ n
@@ -58,16 +57,16 @@ module _ {s : List ℕ} {n : ℕ} {a₀ : List ℕ} {p₀ : ℕ} {m₀ : State} 
         buffer = rw (q, w) (ap (λ (x : ℕ). sets (sets a i (answers m xs)) (i + x) (answers (ran m xs) ys)) (sym t) ∙ (sym (sets-append a i (answers m xs) (answers (ran m xs) ys)) ∙ rw (e, v) at (h .buffer)));
       }
 
-  -- as the code has them: counted, read into an array, and their answers in another
-  pub run-batch : {c next : ℕ} (steps : List Step) {many : Many} {b : List ℕ} {k : ℕ} → i + c ≤ n → length (stepsFrom s c p) ≡ c
+  -- as the code has them: counted, read into an array, and their answers where they were lent to
+  pub run-batch : {c next : ℕ} (steps : List Step) {m′ : State} {b : List ℕ} {k : ℕ} → n ≤ length a₀ → i + c ≤ n → length (stepsFrom s c p) ≡ c
       → ((t : ℕ) → stepsFrom s (c + t) p ≡ stepsFrom s c p ++ stepsFrom s t next) → take (length (stepsFrom s c p)) steps ≡ stepsFrom s c p
-      → many ≡ manyOf m steps c → b ≡ sets a i (take c (many .answers)) → (k ≡ times 0 (take c (many .answers))) × (k ≤ c)
-      → Running s n a₀ p₀ m₀ b next (many .state) (i + c) (taken + k)
-  run-batch {c} {next} steps {many} j l f e r w o =
+      → m′ ≡ ran m (take c steps) → b ≡ sets a i (answers m (take c steps)) → (k ≡ times 0 (take c (drop i b))) × (k ≤ c)
+      → Running s n a₀ p₀ m₀ b next m′ (i + c) (taken + k)
+  run-batch {c} {next} steps {m′} {b} {k} room j l f e r w o =
       let x : take c steps ≡ stepsFrom s c p = ap (λ (t : ℕ). take t steps) (sym l) ∙ e in
-      let q : many ≡ record { state = ran m (stepsFrom s c p); answers = answers m (stepsFrom s c p) ++ drop c (replicate 64 0) } = r ∙ (λ i. record { state = ran m (x i); answers = answers m (x i) ++ drop c (replicate 64 0) }) in
-      let y : take c (many .answers) ≡ answers m (stepsFrom s c p) = ap (λ (t : Many). take c (t .answers)) q ∙ take-at (answers m (stepsFrom s c p)) (drop c (replicate 64 0)) c (answers-length m (stepsFrom s c p) ∙ l) in
-      run-some (stepsFrom s c p) l j (f (n - i - c)) (ap (λ (t : Many). t .state) q) (w ∙ ap (sets a i) y) (o .0 ∙ ap (times 0) y) (o .1)
+      let g : b ≡ sets a i (answers m (stepsFrom s c p)) = w ∙ ap (λ (t : List Step). sets a i (answers m t)) x in
+      let y : take c (drop i b) ≡ answers m (stepsFrom s c p) = ap (λ (t : List ℕ). take c (drop i t)) g ∙ set-there a i (answers m (stepsFrom s c p)) (answers-length m (stepsFrom s c p) ∙ l) (omega (arith, h .long)) in
+      run-some (stepsFrom s c p) l j (f (n - i - c)) (r ∙ ap (ran m) x) g (o .0 ∙ ap (times 0) y) (o .1)
 
 -- a buffer with the answers set one by one is filled
 sets-filled : (m : State) (steps : List Step) (a : List ℕ) → length steps ≤ length a → sets a 0 (answers m steps) ≡ filled m steps a

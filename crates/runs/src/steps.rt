@@ -1,6 +1,7 @@
-// The steps of a book, run one after another, each answered at its own index. They are taken by sixty-four.
+// The steps of a book, run one after another, each answered at its own index. They are taken by sixteen.
 
 use super::batch;
+use machine::Answered;
 use machine::Machine;
 use protocol::Ran;
 use protocol::State;
@@ -18,33 +19,33 @@ pub(crate) fn run_steps(s: &[u8], n: u16, from: usize, m: State, answers: &mut [
     ensures { λ r. ⌜ (r ≡ fullRun m (stepsFrom (now (s .entry)) n from)) × (now (answers .exit) ≡ filled m (stepsFrom (now (s .entry)) n from) (now (answers .entry))) ⌝ }
 {
     let mut at = from;
-    let mut m = m;
+    let machine = Machine { state: m };
+    let mut r = Answered { machine, answer: 0 };
     let mut i: u16 = 0;
     let mut taken: u16 = 0;
     while i < n {
         let l = batch::reach(s, at, batch::wanted(n - i));
         let count = l.count;
         if count == 0 {
+            let m = r.machine;
+            let state = m.state;
             return Ran {
-                state: m,
+                state,
                 answer: 0,
                 steps: i,
                 taken,
             };
         }
         let steps = batch::load(s, at, count);
-        let r = Machine { state: m }.steps_unbroken(steps, count);
-        let given = r.answers;
-        batch::put_all(answers, i as usize, given, count);
-        taken += batch::taken(given, count);
-        let after = r.machine;
-        let state = after.state;
-        m = state;
+        r = r.machine.steps_unbroken(steps, count, answers, i as usize);
+        taken += batch::taken(answers, i as usize, count);
         at = l.next;
         i += count as u16;
     }
+    let m = r.machine;
+    let state = m.state;
     Ran {
-        state: m,
+        state,
         answer: 0,
         steps: i,
         taken,

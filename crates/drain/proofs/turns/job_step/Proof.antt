@@ -36,15 +36,15 @@ array-read-awaiting-step c = search needs
 
 copies-requires : tie.Need-copies-requires
 copies-requires c κs =
-    let start = c .before .before .before .before .before .before .before .before .before .before .before in
+    let start = c .before .before .before .before .before .before .before .before .before .before .before .before .before in
     let h = start .pre .0 .headIn32 (start .args .actor) (omega arith) in
-    rw (c .before .before .before .before .before .before .before .view-of .ensures, c .before .before .before .before .before .before .before .before .before .head-of .ensures) (start .pre .0 .storeIn8 _ h, h)
+    rw (c .before .before .before .before .before .before .before .before .before .view-of .ensures, c .before .before .before .before .before .before .before .before .before .before .before .head-of .ensures) (start .pre .0 .storeIn8 _ h, h)
 
 copies-requires-2 : tie.Need-copies-requires-2
 copies-requires-2 c κs =
-    let start = c .before .before .before .before .before .before .before .before .before .before .before .before in
+    let start = c .before .before .before .before .before .before .before .before .before .before .before .before .before .before in
     let h = start .pre .0 .headIn32 (start .args .actor) (omega arith) in
-    rw (c .before .before .before .before .before .before .before .before .view-of .ensures, c .before .before .before .before .before .before .before .before .before .before .head-of .ensures) (start .pre .0 .storeIn8 _ h, h)
+    rw (c .before .before .before .before .before .before .before .before .before .before .view-of .ensures, c .before .before .before .before .before .before .before .before .before .before .before .before .head-of .ensures) (start .pre .0 .storeIn8 _ h, h)
 
 awaiting-step-requires : tie.Need-awaiting-step-requires
 awaiting-step-requires c κs = search needs
@@ -52,10 +52,10 @@ awaiting-step-requires c κs = search needs
 returns-4 : tie.Need-returns-4
 unfolding jobStep
 returns-4 c =
-    let d = rw (c .before .before .before .before .before .before .before .before .before .before .view-of .ensures, c .before .before .before .before .before .before .before .before .before .before .before .before .head-of .ensures) at (c .before .before .before .before .before .before .before .before .if1 .left) in
-    let d₂ = rw (c .before .before .before .before .before .before .before .before .before .before .view-of .ensures, c .before .before .before .before .before .before .before .before .before .before .before .before .head-of .ensures) at (c .before .before .before .before .before .before .if2 .left) in
-    let d₃ = rw (c .before .before .before .before .before .before .before .before .before .before .view-of .ensures, c .before .before .before .before .before .before .before .before .before .before .before .before .head-of .ensures) at (c .before .before .before .before .if3 .left) in
-    rw (c .awaiting-step .ensures, c .before .copies2 .ensures, c .before .before .copies .ensures, c .before .before .before .before .before .before .before .before .before .before .view-of .ensures, c .before .before .before .before .before .before .before .before .before .before .before .before .head-of .ensures) (simp (ne-eqb _ _ d, ne-eqb _ _ d₂, ne-eqb _ _ d₃))
+    let d = rw (c .before .before .before .before .before .before .before .before .before .before .before .before .view-of .ensures, c .before .before .before .before .before .before .before .before .before .before .before .before .before .before .head-of .ensures) at (c .before .before .before .before .before .before .before .before .before .before .if1 .left) in
+    let d₂ = rw (c .before .before .before .before .before .before .before .before .before .before .before .before .view-of .ensures, c .before .before .before .before .before .before .before .before .before .before .before .before .before .before .head-of .ensures) at (c .before .before .before .before .before .before .before .before .if2 .left) in
+    let d₃ = rw (c .before .before .before .before .before .before .before .before .before .before .before .before .view-of .ensures, c .before .before .before .before .before .before .before .before .before .before .before .before .before .before .head-of .ensures) at (c .before .before .before .before .before .before .if3 .left) in
+    rw (c .awaiting-step .ensures, c .before .copies2 .ensures, c .before .before .copies .ensures, c .before .before .before .before .before .before .before .before .before .before .before .before .view-of .ensures, c .before .before .before .before .before .before .before .before .before .before .before .before .before .before .head-of .ensures) (simp (ne-eqb _ _ d, ne-eqb _ _ d₂, ne-eqb _ _ d₃))
 
 pub job-step-spec : {M : Type 1} → statement M
 job-step-spec =

@@ -1,20 +1,9 @@
 -- Each exit by the tests before it, which speak of the lowest that the searches found. Assumes nothing.
-use Prim.Native.Nat.{ℕ}
-use mathlib.Core.Path.{_≡_, refl, _∙_}
-use mathlib.Core.List.{List}
-use denote.Ref.{now}
 use borrow.Author.Tests.{lt-ltb, le-ltb}
 use borrow.Author.Needs.{needs}
-use Rattle.protocol.specs.Writes.{withUpdates, withUacks}
-use Rattle.protocol.specs.declared.State.{State}
-use Rattle.protocol.specs.Drain.{jobStep, entryStep, turnOf}
+use Rattle.protocol.specs.Drain.{entryStep, turnOf}
 use Rattle.drain.proofs.turns.turn.Statement.{statement}
 use Rattle.drain.proofs.turns.turn.Tie as tie
-
--- the actors' steps don't look at updates and uacks
-job-apart : (m : State) (updates uacks : List ℕ) (a : ℕ) → jobStep m a ≡ jobStep (withUacks (withUpdates m updates) uacks) a
-unfolding jobStep
-job-apart m updates uacks a = refl
 
 unreceived-requires : tie.Need-unreceived-requires
 unreceived-requires c κs = search needs
@@ -32,9 +21,7 @@ job-step-requires c κs = search needs
 returns-2 : tie.Need-returns-2
 unfolding turnOf
 returns-2 c =
-    let start = c .before .before .before .before .before .before .before .before .before in
-    let job = c .job-step .ensures ∙ job-apart _ (now (start .args .updates)) (now (start .args .uacks)) _ in
-    simp (← c .before .before .before .before .before .before .before .unreceived .ensures, le-ltb _ _ (c .before .before .before .before .before .if1 .left), ← c .before .before .before .busy .ensures, lt-ltb _ _ (c .before .if2 .taken), job)
+    simp (← c .before .before .before .before .before .before .before .unreceived .ensures, le-ltb _ _ (c .before .before .before .before .before .if1 .left), ← c .before .before .before .busy .ensures, lt-ltb _ _ (c .before .if2 .taken), c .job-step .ensures)
 
 coordinator-turn-requires : tie.Need-coordinator-turn-requires
 coordinator-turn-requires c κs = search needs

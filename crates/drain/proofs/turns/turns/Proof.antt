@@ -5,7 +5,7 @@ use native.Mathlib.Omega.{arith}
 use borrow.Author.Needs.{needs}
 use Rattle.unbroken.proofs.Laws.{bounds}
 use Rattle.machine.specs.declared.Answered.{Answered}
-use Rattle.drain.proofs.Draining.{Going, going-start, going-on, going-rest, going-end}
+use Rattle.drain.proofs.Draining.{Going, once, going-start, going-on, going-rest, going-end}
 use Rattle.drain.proofs.turns.turns.Statement.{statement}
 use Rattle.drain.proofs.turns.turns.Tie as tie
 
@@ -25,7 +25,7 @@ loop-holds : tie.Need-loop-holds Inv-loop μ-loop
 loop-holds c = going-start _ _ (c .before .pre)
 
 turn-requires : tie.Need-turn-requires Inv-loop μ-loop
-turn-requires c κs = bounds _ (c .before .before .before .before .before .before .before .loop .inv .whole)
+turn-requires c κs = bounds _ (c .before .loop .inv .whole)
 
 enum-known-t : tie.Need-enum-known-t Inv-loop μ-loop
 enum-known-t c = search needs
@@ -34,23 +34,34 @@ enum-told : tie.Need-enum-told Inv-loop μ-loop
 enum-told c = search needs
 
 returns : tie.Need-returns Inv-loop μ-loop
-returns c = going-rest (c .before .before .before .before .before .before .before .before .before .before .before .before .loop .inv) (c .before .before .before .before .before .before .before .before .before .before .before .loop-test .taken) (sym (c .before .before .before .before .turn .ensures) ∙ c .before .before .enum-told .given .1)
+returns c =
+    let turn = c .before .before .before .before in
+    going-rest (turn .before .before .loop .inv) (turn .before .loop-test .taken) (sym (turn .turn .ensures) ∙ c .before .before .enum-told .given .1)
 
-step-unbroken-requires : tie.Need-step-unbroken-requires Inv-loop μ-loop
-step-unbroken-requires c κs = c .before .before .before .before .before .before .before .before .before .before .before .before .loop .inv .whole
+array-set-from-steps : tie.Need-array-set-from-steps Inv-loop μ-loop
+array-set-from-steps c = search needs
+
+slice-aggregate-steps-unbroken : tie.Need-slice-aggregate-steps-unbroken Inv-loop μ-loop
+slice-aggregate-steps-unbroken c = search needs
+
+steps-unbroken-requires : tie.Need-steps-unbroken-requires Inv-loop μ-loop
+steps-unbroken-requires c κs = (omega arith, omega arith, omega arith, c .before .before .before .before .before .before .loop .inv .whole)
 
 add-count : tie.Need-add-count Inv-loop μ-loop
 add-count c =
-    let loop = c .before .before .before .before .before .before .before .before .before .before .before .before .before in
-    let small = bounds _ (loop .before .before .pre) .made16 in
-    let room : loop .loop .count + 1 < 65536 = omega (arith, small, c .before .before .before .before .before .before .before .before .before .before .before .before .loop-test .taken) in
+    let loop = c .before .before .before .before .before .before .before in
+    let small = bounds _ (loop .before .before .before .pre) .made16 in
+    let room : loop .before .loop .count + 1 < 65536 = omega (arith, small, loop .loop-test .taken) in
     record { fits = room }
 
 loop-less : tie.Need-loop-less Inv-loop μ-loop
 loop-less c = search needs
 
 loop-again : tie.Need-loop-again Inv-loop μ-loop
-loop-again c = going-on (c .before .before .before .before .before .before .before .before .before .before .before .before .before .loop .inv) _ (c .step-unbroken .result .machine .state) (c .before .before .before .before .before .before .before .before .before .before .before .before .loop-test .taken) (sym (c .before .before .before .before .before .turn .ensures) ∙ c .before .before .before .t .given .1) (ap (λ (a : Answered). a .machine .state) (c .step-unbroken .ensures))
+loop-again c =
+    let turn = c .before .before .before .before .before .before in
+    let next = c .before .steps-unbroken .result .machine .state in
+    going-on (turn .before .before .loop .inv) _ next (turn .before .loop-test .taken) (sym (turn .turn .ensures) ∙ c .before .before .before .before .t .given .1) (ap (λ (a : Answered). a .machine .state) (c .before .steps-unbroken .ensures .0) ∙ once _ _)
 
 returns-2 : tie.Need-returns-2 Inv-loop μ-loop
 returns-2 c = going-end (c .before .before .before .loop .inv) (c .before .before .loop-test .left)
@@ -68,7 +79,9 @@ turns-spec =
     enum-known-t
     enum-told
     returns
-    step-unbroken-requires
+    array-set-from-steps
+    slice-aggregate-steps-unbroken
+    steps-unbroken-requires
     add-count
     loop-less
     loop-again

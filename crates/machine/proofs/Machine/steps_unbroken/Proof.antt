@@ -2,14 +2,13 @@
 -- start. The slots of each are found as the definitions find them, each within its array, and what the rule gives is what is
 -- written there. The measure is what is left. Assumes nothing.
 use Prim.Native.Nat.{_-_, _<_}
-use mathlib.Core.Path.{_≡_, sym, _∙_, ap}
+use mathlib.Core.Path.{_≡_, sym, _∙_}
 use mathlib.Core.Bool.{true, false}
 use mathlib.Core.Logic.{⊎-elim}
 use native.Mathlib.Omega.{arith}
 use borrow.Author.Needs.{needs}
 use lib.ListN.{getD}
 use Rattle.unbroken.proofs.Laws.{bounds}
-use Rattle.machine.specs.Given.{givenMany}
 use Rattle.rules.specs.About.{outsideOf}
 use Rattle.protocol.specs.declared.Step.the-variants.{Send}
 use Rattle.machine.proofs.Found.{Found, outside-refuses, looked, stands, written, fits}
@@ -19,10 +18,10 @@ use Rattle.machine.proofs.Machine.steps_unbroken.Statement.{statement}
 use Rattle.machine.proofs.Machine.steps_unbroken.Tie as tie
 
 abbrev Inv-loop : tie.InvT-loop
-Inv-loop n steps m₀ answers₀ i₀ m answers i = Taking steps n m₀ m answers i
+Inv-loop n room₀ from steps m₀ i₀ room m i = Taking steps n from m₀ m room₀ room i
 
 abbrev μ-loop : tie.MeasureT-loop
-μ-loop n steps m₀ answers₀ i₀ m answers i = n - i
+μ-loop n room₀ from steps m₀ i₀ room m i = n - i
 
 -- from where it is known what the step looks back at, the way to each place before
 abbrev store-at : tie.Joined2 Inv-loop μ-loop → tie.After-store-of Inv-loop μ-loop
@@ -47,7 +46,7 @@ abbrev turn-at : tie.Joined2 Inv-loop μ-loop → tie.At-loop Inv-loop μ-loop
 turn-at c = test-at c .before
 
 abbrev start-at : tie.Joined2 Inv-loop μ-loop → tie.Start Inv-loop μ-loop
-start-at c = turn-at c .before .before
+start-at c = turn-at c .before .before .before
 
 -- from where the slots are written, the way to that and to the rule
 abbrev joined-at : tie.After-made-of Inv-loop μ-loop → tie.Joined2 Inv-loop μ-loop
@@ -57,7 +56,7 @@ abbrev rule-at : tie.After-made-of Inv-loop μ-loop → tie.After-rule Inv-loop 
 rule-at c = c .before .before .before .before .before .before .before .before .before .before .before
 
 -- no number that the step names lies outside
-inside : (c : tie.Else1 Inv-loop μ-loop) → outsideOf ((c .before .before .before .before .loop .m) .stores) ((c .before .before .before .before .loop .m) .actors) ((c .before .before .before .before .loop .m) .made) (getD (c .before .before .before .before .before .before .args .t2) (c .before .before .before .before .loop .i) (Send 0 0 0 0 0)) ≡ false
+inside : (c : tie.Else1 Inv-loop μ-loop) → outsideOf ((c .before .before .before .before .loop .m) .stores) ((c .before .before .before .before .loop .m) .actors) ((c .before .before .before .before .loop .m) .made) (getD (c .before .before .before .before .before .before .before .args .t2) (c .before .before .before .before .loop .i) (Send 0 0 0 0 0)) ≡ false
 inside c = cc (c .before .names-outside .ensures, c .if1 .left)
 
 -- the view, the actor and the store are found as the definitions find them, and what the step looks back at is theirs
@@ -76,7 +75,7 @@ within : (c : tie.After-made-of Inv-loop μ-loop) → (view-at (joined-at c) .vi
 within c = (view-at (joined-at c) .view-of .ensures .1, actor-at (joined-at c) .actor-of .ensures .1, store-at (joined-at c) .store-of .ensures .1)
 
 loop-holds : tie.Need-loop-holds Inv-loop μ-loop
-loop-holds c = take-start (c .before .pre .0) (search needs) (c .before .pre .1)
+loop-holds c = take-start (c .before .before .pre .0) (c .before .before .pre .1) (search needs) (c .before .before .pre .2) (c .before .before .pre .3)
 
 mul-s : tie.Need-mul-s Inv-loop μ-loop
 mul-s c = omega arith
@@ -87,8 +86,11 @@ array-copy-out-s c = omega (arith, c .before .loop .inv .few)
 names-outside-requires : tie.Need-names-outside-requires Inv-loop μ-loop
 names-outside-requires c κs = search needs
 
-array-write-answers : tie.Need-array-write-answers Inv-loop μ-loop
-array-write-answers c = omega (arith, c .before .before .before .before .loop .inv .few, c .before .before .before .loop-test .taken)
+add-room : tie.Need-add-room Inv-loop μ-loop
+add-room c = search needs
+
+slice-write-room : tie.Need-slice-write-room Inv-loop μ-loop
+slice-write-room c = omega (arith, c .before .before .before .before .loop .inv .room, c .before .before .before .loop-test .taken)
 
 add-i : tie.Need-add-i Inv-loop μ-loop
 add-i c = omega (arith, c .before .before .before .before .loop .inv .few, c .before .before .before .loop-test .taken)
@@ -99,8 +101,8 @@ loop-less c = omega (arith, c .before .before .before .loop-test .taken)
 loop-again : tie.Need-loop-again Inv-loop μ-loop
 loop-again c =
     let m = c .before .before .before .before .loop .m in
-    let outside : outsideOf (m .stores) (m .actors) (m .made) (getD (c .before .before .before .before .before .before .args .t2) (c .before .before .before .before .loop .i) (Send 0 0 0 0 0)) ≡ true = cc (c .before .names-outside .ensures, c .if1 .taken) in
-    take-step (c .before .before .before .before .loop .inv) (c .before .before .before .loop-test .taken) _ (sym (outside-refuses m (getD (c .before .before .before .before .before .before .args .t2) (c .before .before .before .before .loop .i) (Send 0 0 0 0 0)) outside))
+    let outside : outsideOf (m .stores) (m .actors) (m .made) (getD (c .before .before .before .before .before .before .before .args .t2) (c .before .before .before .before .loop .i) (Send 0 0 0 0 0)) ≡ true = cc (c .before .names-outside .ensures, c .if1 .taken) in
+    take-step (c .before .before .before .before .loop .inv) (c .before .before .before .loop-test .taken) _ (sym (outside-refuses m (getD (c .before .before .before .before .before .before .before .args .t2) (c .before .before .before .before .loop .i) (Send 0 0 0 0 0)) outside))
 
 about-of-requires : tie.Need-about-of-requires Inv-loop μ-loop
 about-of-requires c κs = search needs
@@ -112,13 +114,13 @@ mul-named : tie.Need-mul-named Inv-loop μ-loop
 mul-named c = search needs
 
 element-copy-out-named : tie.Need-element-copy-out-named Inv-loop μ-loop
-element-copy-out-named c = rw (c .before .about-of .ensures) (actor-low _ (bounds _ (c .before .before .before .before .before .before .loop .inv .unbroken)) (getD (c .before .before .before .before .before .before .before .before .args .t2) (c .before .before .before .before .before .before .loop .i) (Send 0 0 0 0 0)) (inside (c .before .before)))
+element-copy-out-named c = rw (c .before .about-of .ensures) (actor-low _ (bounds _ (c .before .before .before .before .before .before .loop .inv .unbroken)) (getD (c .before .before .before .before .before .before .before .before .before .args .t2) (c .before .before .before .before .before .before .loop .i) (Send 0 0 0 0 0)) (inside (c .before .before)))
 
 element-copy-out-view-of : tie.Need-element-copy-out-view-of Inv-loop μ-loop
 element-copy-out-view-of c = search needs
 
 view-of-requires : tie.Need-view-of-requires Inv-loop μ-loop
-view-of-requires c κs = ((bounds _ (c .before .before .before .before .before .before .before .before .loop .inv .unbroken)) .headIn32 _ (rw (c .before .before .before .about-of .ensures) (actor-low _ (bounds _ (c .before .before .before .before .before .before .before .before .loop .inv .unbroken)) (getD (c .before .before .before .before .before .before .before .before .before .before .args .t2) (c .before .before .before .before .before .before .before .before .loop .i) (Send 0 0 0 0 0)) (inside (c .before .before .before .before)))), rw (c .before .before .before .about-of .ensures) (view-about-low _ (bounds _ (c .before .before .before .before .before .before .before .before .loop .inv .unbroken)) (getD (c .before .before .before .before .before .before .before .before .before .before .args .t2) (c .before .before .before .before .before .before .before .before .loop .i) (Send 0 0 0 0 0)) (inside (c .before .before .before .before))))
+view-of-requires c κs = ((bounds _ (c .before .before .before .before .before .before .before .before .loop .inv .unbroken)) .headIn32 _ (rw (c .before .before .before .about-of .ensures) (actor-low _ (bounds _ (c .before .before .before .before .before .before .before .before .loop .inv .unbroken)) (getD (c .before .before .before .before .before .before .before .before .before .before .before .args .t2) (c .before .before .before .before .before .before .before .before .loop .i) (Send 0 0 0 0 0)) (inside (c .before .before .before .before)))), rw (c .before .before .before .about-of .ensures) (view-about-low _ (bounds _ (c .before .before .before .before .before .before .before .before .loop .inv .unbroken)) (getD (c .before .before .before .before .before .before .before .before .before .before .before .args .t2) (c .before .before .before .before .before .before .before .before .loop .i) (Send 0 0 0 0 0)) (inside (c .before .before .before .before))))
 
 mul-w : tie.Need-mul-w Inv-loop μ-loop
 mul-w c = search needs
@@ -133,10 +135,10 @@ element-copy-out-e : tie.Need-element-copy-out-e Inv-loop μ-loop
 element-copy-out-e c = search needs
 
 actor-of-requires : tie.Need-actor-of-requires Inv-loop μ-loop
-actor-of-requires c κs = (rw (c .before .before .before .before .before .before .about-of .ensures) (actor-low _ (bounds _ (c .before .before .before .before .before .before .before .before .before .before .before .loop .inv .unbroken)) (getD (c .before .before .before .before .before .before .before .before .before .before .before .before .before .args .t2) (c .before .before .before .before .before .before .before .before .before .before .before .loop .i) (Send 0 0 0 0 0)) (inside (c .before .before .before .before .before .before .before))), (bounds _ (c .before .before .before .before .before .before .before .before .before .before .before .loop .inv .unbroken)) .actorIn8 _ (c .before .before .view-of .ensures .1))
+actor-of-requires c κs = (rw (c .before .before .before .before .before .before .about-of .ensures) (actor-low _ (bounds _ (c .before .before .before .before .before .before .before .before .before .before .before .loop .inv .unbroken)) (getD (c .before .before .before .before .before .before .before .before .before .before .before .before .before .before .args .t2) (c .before .before .before .before .before .before .before .before .before .before .before .loop .i) (Send 0 0 0 0 0)) (inside (c .before .before .before .before .before .before .before))), (bounds _ (c .before .before .before .before .before .before .before .before .before .before .before .loop .inv .unbroken)) .actorIn8 _ (c .before .before .view-of .ensures .1))
 
 store-of-requires : tie.Need-store-of-requires Inv-loop μ-loop
-store-of-requires c κs = (rw (c .before .before .before .before .before .before .before .about-of .ensures) (store-low _ (bounds _ (c .before .before .before .before .before .before .before .before .before .before .before .before .loop .inv .unbroken)) (getD (c .before .before .before .before .before .before .before .before .before .before .before .before .before .before .args .t2) (c .before .before .before .before .before .before .before .before .before .before .before .before .loop .i) (Send 0 0 0 0 0)) (inside (c .before .before .before .before .before .before .before .before))), (bounds _ (c .before .before .before .before .before .before .before .before .before .before .before .before .loop .inv .unbroken)) .storeIn8 _ (c .before .before .before .view-of .ensures .1), (bounds _ (c .before .before .before .before .before .before .before .before .before .before .before .before .loop .inv .unbroken)) .destinationIn8 _ (c .before .before .before .view-of .ensures .1))
+store-of-requires c κs = (rw (c .before .before .before .before .before .before .before .about-of .ensures) (store-low _ (bounds _ (c .before .before .before .before .before .before .before .before .before .before .before .before .loop .inv .unbroken)) (getD (c .before .before .before .before .before .before .before .before .before .before .before .before .before .before .before .args .t2) (c .before .before .before .before .before .before .before .before .before .before .before .before .loop .i) (Send 0 0 0 0 0)) (inside (c .before .before .before .before .before .before .before .before))), (bounds _ (c .before .before .before .before .before .before .before .before .before .before .before .before .loop .inv .unbroken)) .storeIn8 _ (c .before .before .before .view-of .ensures .1), (bounds _ (c .before .before .before .before .before .before .before .before .before .before .before .before .loop .inv .unbroken)) .destinationIn8 _ (c .before .before .before .view-of .ensures .1))
 
 mul-o : tie.Need-mul-o Inv-loop μ-loop
 mul-o c = search needs
@@ -216,35 +218,35 @@ look-back-requires c κs = search needs
 cast-m : tie.Need-cast-m Inv-loop μ-loop
 cast-m c = search needs
 
+element-copy-out-t52 : tie.Need-element-copy-out-t52 Inv-loop μ-loop
+element-copy-out-t52 c = search needs
+
 element-copy-out-t50 : tie.Need-element-copy-out-t50 Inv-loop μ-loop
 element-copy-out-t50 c = search needs
 
-element-copy-out-t51 : tie.Need-element-copy-out-t51 Inv-loop μ-loop
-element-copy-out-t51 c = search needs
+cast-t45 : tie.Need-cast-t45 Inv-loop μ-loop
+cast-t45 c = search needs
 
-cast-t44 : tie.Need-cast-t44 Inv-loop μ-loop
-cast-t44 c = search needs
+element-copy-out-t93 : tie.Need-element-copy-out-t93 Inv-loop μ-loop
+element-copy-out-t93 c = rw (about-at (c .before .before .before) .about-of .ensures) (other-low _ (bounds _ (turn-at (c .before .before .before) .loop .inv .unbroken)) (getD (start-at (c .before .before .before) .args .t2) (turn-at (c .before .before .before) .loop .i) (Send 0 0 0 0 0)) (inside (inside-at (c .before .before .before))))
 
-element-copy-out-t92 : tie.Need-element-copy-out-t92 Inv-loop μ-loop
-element-copy-out-t92 c = rw (about-at (c .before .before .before) .about-of .ensures) (other-low _ (bounds _ (turn-at (c .before .before .before) .loop .inv .unbroken)) (getD (start-at (c .before .before .before) .args .t2) (turn-at (c .before .before .before) .loop .i) (Send 0 0 0 0 0)) (inside (inside-at (c .before .before .before))))
+element-copy-out-t44 : tie.Need-element-copy-out-t44 Inv-loop μ-loop
+element-copy-out-t44 c = search needs
 
-element-copy-out-t43 : tie.Need-element-copy-out-t43 Inv-loop μ-loop
-element-copy-out-t43 c = search needs
+element-copy-out-t99 : tie.Need-element-copy-out-t99 Inv-loop μ-loop
+element-copy-out-t99 c = search needs
 
-element-copy-out-t98 : tie.Need-element-copy-out-t98 Inv-loop μ-loop
-element-copy-out-t98 c = search needs
+element-copy-out-t102 : tie.Need-element-copy-out-t102 Inv-loop μ-loop
+element-copy-out-t102 c = search needs
 
-element-copy-out-t101 : tie.Need-element-copy-out-t101 Inv-loop μ-loop
-element-copy-out-t101 c = search needs
+element-copy-out-t105 : tie.Need-element-copy-out-t105 Inv-loop μ-loop
+element-copy-out-t105 c = search needs
 
-element-copy-out-t104 : tie.Need-element-copy-out-t104 Inv-loop μ-loop
-element-copy-out-t104 c = search needs
+element-copy-out-t108 : tie.Need-element-copy-out-t108 Inv-loop μ-loop
+element-copy-out-t108 c = search needs
 
-element-copy-out-t107 : tie.Need-element-copy-out-t107 Inv-loop μ-loop
-element-copy-out-t107 c = search needs
-
-element-copy-out-t110 : tie.Need-element-copy-out-t110 Inv-loop μ-loop
-element-copy-out-t110 c = search needs
+element-copy-out-t111 : tie.Need-element-copy-out-t111 Inv-loop μ-loop
+element-copy-out-t111 c = search needs
 
 element-copy-out-made-of : tie.Need-element-copy-out-made-of Inv-loop μ-loop
 element-copy-out-made-of c = search needs
@@ -330,8 +332,11 @@ element-write-m-6 c = omega (arith, within c .0, within c .1, within c .2)
 element-write-m-7 : tie.Need-element-write-m-7 Inv-loop μ-loop
 element-write-m-7 c = omega (arith, within c .0, within c .1, within c .2)
 
-array-write-answers-2 : tie.Need-array-write-answers-2 Inv-loop μ-loop
-array-write-answers-2 c = omega (arith, turn-at (joined-at c) .loop .inv .few, test-at (joined-at c) .loop-test .taken)
+add-room-2 : tie.Need-add-room-2 Inv-loop μ-loop
+add-room-2 c = omega (arith, start-at (joined-at c) .good .1 .1 .1 .0 .0, turn-at (joined-at c) .loop .inv .room, turn-at (joined-at c) .loop .inv .long, test-at (joined-at c) .loop-test .taken)
+
+slice-write-room-2 : tie.Need-slice-write-room-2 Inv-loop μ-loop
+slice-write-room-2 c = omega (arith, turn-at (joined-at c) .loop .inv .room, test-at (joined-at c) .loop-test .taken)
 
 add-i-2 : tie.Need-add-i-2 Inv-loop μ-loop
 add-i-2 c = omega (arith, turn-at (joined-at c) .loop .inv .few, test-at (joined-at c) .loop-test .taken)
@@ -342,8 +347,20 @@ loop-less-2 c = omega (arith, test-at (joined-at c) .loop-test .taken)
 loop-again-2 : tie.Need-loop-again-2 Inv-loop μ-loop
 loop-again-2 c = rw (c .made-of .ensures) (take-step (turn-at (joined-at c) .loop .inv) (test-at (joined-at c) .loop-test .taken) _ (written (found (joined-at c)) (rule-at c .rule .result) (rule-at c .rule .ensures _ (stands (found (joined-at c)) (inside (inside-at (joined-at c)))))))
 
+sub-t149 : tie.Need-sub-t149 Inv-loop μ-loop
+sub-t149 c = omega (arith, c .before .loop .inv .some)
+
+add-t150 : tie.Need-add-t150 Inv-loop μ-loop
+add-t150 c = omega (arith, c .before .before .before .before .good .1 .1 .1 .0 .0, c .before .loop .inv .room, c .before .loop .inv .long, c .before .loop .inv .some)
+
+slice-read-t152 : tie.Need-slice-read-t152 Inv-loop μ-loop
+slice-read-t152 c = omega (arith, c .before .before .loop .inv .room, c .before .before .loop .inv .some)
+
+same-length : tie.Need-same-length Inv-loop μ-loop
+same-length c = c .before .before .loop .inv .long
+
 returns : tie.Need-returns Inv-loop μ-loop
-returns c = ap givenMany (take-end (c .before .loop .inv) (c .loop-test .left))
+returns c = take-end (c .before .before .loop .inv) (c .before .loop-test .left)
 
 pub steps-unbroken-spec : {M : Type 1} → statement M
 steps-unbroken-spec =
@@ -355,7 +372,8 @@ steps-unbroken-spec =
     mul-s
     array-copy-out-s
     names-outside-requires
-    array-write-answers
+    add-room
+    slice-write-room
     add-i
     loop-less
     loop-again
@@ -397,16 +415,16 @@ steps-unbroken-spec =
     no-past-requires
     look-back-requires
     cast-m
+    element-copy-out-t52
     element-copy-out-t50
-    element-copy-out-t51
-    cast-t44
-    element-copy-out-t92
-    element-copy-out-t43
-    element-copy-out-t98
-    element-copy-out-t101
-    element-copy-out-t104
-    element-copy-out-t107
-    element-copy-out-t110
+    cast-t45
+    element-copy-out-t93
+    element-copy-out-t44
+    element-copy-out-t99
+    element-copy-out-t102
+    element-copy-out-t105
+    element-copy-out-t108
+    element-copy-out-t111
     element-copy-out-made-of
     rule-requires
     made-of-requires
@@ -435,8 +453,13 @@ steps-unbroken-spec =
     element-set-from-links
     element-write-m-6
     element-write-m-7
-    array-write-answers-2
+    add-room-2
+    slice-write-room-2
     add-i-2
     loop-less-2
     loop-again-2
+    sub-t149
+    add-t150
+    slice-read-t152
+    same-length
     returns)
