@@ -56,54 +56,41 @@ fn one_link(link: u8) -> [u8; 16] {
 }
 
 // M stores actors made.
-fn counts(m: State, n: [u8; 64]) -> State {
-    let mut out = m;
-    out.stores = n[1];
-    out.actors = n[2];
-    out.made = n[3];
-    out
+fn counts(mut m: State, n: [u8; 64]) -> State {
+    m.stores = n[1];
+    m.actors = n[2];
+    m.made = n[3];
+    m
 }
 
 // U store up.
-fn up(m: State, n: [u8; 64]) -> State {
+fn up(mut m: State, n: [u8; 64]) -> State {
     let p = n[1] as usize % 8;
-    let mut out = m;
-    out.up[p] = n[2] == 1;
-    out
+    m.up[p] = n[2] == 1;
+    m
 }
 
 // A actor home list.
-fn actor(m: State, n: [u8; 64]) -> State {
+fn actor(mut m: State, n: [u8; 64]) -> State {
     let a = n[1] as usize % 8;
-    let mut out = m;
-    out.homes[a] = n[2];
-    out.lists[a] = n[3];
-    out
+    m.homes[a] = n[2];
+    m.lists[a] = n[3];
+    m
 }
 
-// Q actor length.
-fn queue(m: State, n: [u8; 64]) -> State {
+// Q actor length place view.
+fn queue(mut m: State, n: [u8; 64]) -> State {
     let a = n[1] as usize % 8;
+    let i = n[3] as usize % 16;
     let mut q = m.queues[a];
     q.len = n[2];
-    let mut out = m;
-    out.queues[a] = q;
-    out
-}
-
-// I actor place view.
-fn queued(m: State, n: [u8; 64]) -> State {
-    let a = n[1] as usize % 8;
-    let i = n[2] as usize % 16;
-    let mut q = m.queues[a];
-    q.views[i] = n[3];
-    let mut out = m;
-    out.queues[a] = q;
-    out
+    q.views[i] = n[4];
+    m.queues[a] = q;
+    m
 }
 
 // V key role actor phase data store viewlink changed causes link: the link is that of cause 0.
-fn view(m: State, n: [u8; 64]) -> State {
+fn view(mut m: State, n: [u8; 64]) -> State {
     let v = view_at(n[1], n[2]);
     let links = one_link(n[10]);
     let w = View {
@@ -116,35 +103,32 @@ fn view(m: State, n: [u8; 64]) -> State {
         word: n[5] as u32,
         links: links,
     };
-    let mut out = m;
-    out.views[v] = w;
-    out
+    m.views[v] = w;
+    m
 }
 
 // P key flying own data.
-fn message(m: State, n: [u8; 64]) -> State {
+fn message(mut m: State, n: [u8; 64]) -> State {
     let k = n[1] as usize % 16;
     let g = Message {
         flying: n[2] == 1,
         own: n[3],
         word: n[4] as u32,
     };
-    let mut out = m;
-    out.messages[k] = g;
-    out
+    m.messages[k] = g;
+    m
 }
 
 // R key role flying destination own.
-fn repair(m: State, n: [u8; 64]) -> State {
+fn repair(mut m: State, n: [u8; 64]) -> State {
     let v = view_at(n[1], n[2]);
     let r = Repair {
         flying: n[3] == 1,
         destination: n[4],
         own: n[5],
     };
-    let mut out = m;
-    out.repairs[v] = r;
-    out
+    m.repairs[v] = r;
+    m
 }
 
 fn status(n: u8) -> Status {
@@ -157,7 +141,7 @@ fn status(n: u8) -> Status {
 }
 
 // E key role status destination own: 0 nothing, 1 to-send, 2 waiting, 3 done.
-fn entry(m: State, n: [u8; 64]) -> State {
+fn entry(mut m: State, n: [u8; 64]) -> State {
     let v = view_at(n[1], n[2]);
     let s = status(n[3]);
     let e = Entry {
@@ -165,13 +149,12 @@ fn entry(m: State, n: [u8; 64]) -> State {
         destination: n[4],
         own: n[5],
     };
-    let mut out = m;
-    out.entries[v] = e;
-    out
+    m.entries[v] = e;
+    m
 }
 
 // S store key role held asserter data causes.
-fn contents(m: State, n: [u8; 64]) -> State {
+fn contents(mut m: State, n: [u8; 64]) -> State {
     let at = place_at(n[1], n[2], n[3]);
     let c = Contents {
         held: n[4] == 1,
@@ -179,38 +162,34 @@ fn contents(m: State, n: [u8; 64]) -> State {
         causes: n[7] as u16,
         word: n[6] as u32,
     };
-    let mut out = m;
-    out.contents[at] = c;
-    out
+    m.contents[at] = c;
+    m
 }
 
 // C store key link: the link of cause 0 in the sender's contents.
-fn cause_link(m: State, n: [u8; 64]) -> State {
+fn cause_link(mut m: State, n: [u8; 64]) -> State {
     let at = links_at(n[1], n[2]);
     let to = one_link(n[3]);
     let l = Links { to: to };
-    let mut out = m;
-    out.links[at] = l;
-    out
+    m.links[at] = l;
+    m
 }
 
 // L store key role link: 0 for none and p + 1 for store p.
-fn viewlink(m: State, n: [u8; 64]) -> State {
+fn viewlink(mut m: State, n: [u8; 64]) -> State {
     let at = place_at(n[1], n[2], n[3]);
-    let mut out = m;
-    out.viewlinks[at] = n[4];
-    out
+    m.viewlinks[at] = n[4];
+    m
 }
 
 // F store key role records acks updates uacks.
-fn copies(m: State, n: [u8; 64]) -> State {
+fn copies(mut m: State, n: [u8; 64]) -> State {
     let at = place_at(n[1], n[2], n[3]);
-    let mut out = m;
-    out.records[at] = n[4];
-    out.acks[at] = n[5];
-    out.updates[at] = n[6];
-    out.uacks[at] = n[7];
-    out
+    m.records[at] = n[4];
+    m.acks[at] = n[5];
+    m.updates[at] = n[6];
+    m.uacks[at] = n[7];
+    m
 }
 
 // T kind fields.
@@ -233,7 +212,6 @@ pub(crate) fn changed(m: State, row: Row) -> State {
         b'U' => up(m, n),
         b'A' => actor(m, n),
         b'Q' => queue(m, n),
-        b'I' => queued(m, n),
         b'V' => view(m, n),
         b'P' => message(m, n),
         b'R' => repair(m, n),

@@ -6,124 +6,92 @@ use crate::row;
 use crate::row::Row;
 use protocol::State;
 
-// How far it is read: what the next cases start from, the state of this one, and its row so far.
-struct Reading {
-    base: State,
-    state: State,
-    row: Row,
-    // What the next byte stands in, as the byte that it begins with: a new line, a comment, a base, a name
-    // (a letter) or the rows of a case.
-    part: u8,
+// What the byte behind this one stands in, as a byte that begins it: a new line, a comment, a base, a name (a
+// letter), or the rows of a case.
+fn follows(part: u8, byte: u8) -> u8 {
+    if byte == b'\n' {
+        return b'\n';
+    }
+    if part == b'\n' {
+        return opens(byte);
+    }
+    if part == b'a' && byte == b':' {
+        return b':';
+    }
+    part
 }
 
-fn begun(r: Reading, byte: u8) -> Reading {
-    let mut out = r;
-    out.part = byte;
-    if byte == b'#' {
-        return out;
+fn opens(byte: u8) -> u8 {
+    match byte {
+        b'#' => b'#',
+        b'=' => b'=',
+        _ => b'a',
     }
-    if byte == b'=' {
-        let m = change::fresh();
-        out.state = m;
-        return out;
-    }
-    print::byte(byte);
-    out.part = b'a';
-    out
 }
 
-fn named(r: Reading, byte: u8) -> Reading {
-    print::byte(byte);
-    if byte != b':' {
-        return r;
+// A name is printed as it is read, and a case ends its line.
+fn echo(part: u8, byte: u8) {
+    if part == b'a' {
+        print::byte(byte);
     }
-    let m = r.base;
-    let mut out = r;
-    out.state = m;
-    out.part = byte;
-    out
+    if part == b':' && byte == b'\n' {
+        print::byte(byte);
+    }
+    if part == b'\n' && opens(byte) == b'a' && byte != b'\n' {
+        print::byte(byte);
+    }
 }
 
 // A row is done: what it asks is answered, in a case, and what it changes is changed.
-fn applied(r: Reading) -> Reading {
-    let row = r.row;
-    let m = r.state;
-    if r.part == b':' {
+fn applied(m: State, row: Row, part: u8) -> State {
+    if part == b':' {
         ask::answered(m, row);
     }
-    let after = change::changed(m, row);
-    let blank = row::lettered(b' ');
-    let mut out = r;
-    out.state = after;
-    out.row = blank;
-    out
+    change::changed(m, row)
 }
 
-fn written(r: Reading, byte: u8) -> Reading {
-    if byte == b';' {
-        return applied(r);
-    }
-    let row = row::fed(r.row, byte);
-    let mut out = r;
-    out.row = row;
-    out
-}
-
-fn case(r: Reading) -> Reading {
-    let mut out = applied(r);
-    print::byte(b'\n');
-    out.part = b'\n';
-    out
-}
-
-fn base(r: Reading) -> Reading {
-    let mut out = applied(r);
-    let m = out.state;
-    out.base = m;
-    out.part = b'\n';
-    out
-}
-
-fn neither(r: Reading) -> Reading {
-    let mut out = r;
-    out.part = b'\n';
-    out
-}
-
-fn ended(r: Reading) -> Reading {
-    let part = r.part;
-    match part {
-        b':' => case(r),
-        b'=' => base(r),
-        _ => neither(r),
+fn written(m: State, row: Row, part: u8, byte: u8) -> State {
+    match byte {
+        b';' | b'\n' => applied(m, row, part),
+        _ => m,
     }
 }
 
-fn fed(r: Reading, byte: u8) -> Reading {
-    if byte == b'\n' {
-        return ended(r);
+// The state behind a byte: a base starts from setup M, a case from the base.
+fn stated(base: State, m: State, row: Row, part: u8, byte: u8) -> State {
+    if part == b':' {
+        return written(m, row, part, byte);
     }
-    let part = r.part;
-    match part {
-        b'\n' => begun(r, byte),
-        b'#' => r,
-        b'a' => named(r, byte),
-        _ => written(r, byte),
+    if part == b'=' {
+        return written(m, row, part, byte);
     }
+    if follows(part, byte) == b'=' {
+        return change::fresh();
+    }
+    base
+}
+
+// The base behind a byte: what a base's line comes to.
+fn based(base: State, m: State, part: u8, byte: u8) -> State {
+    if part == b'=' && byte == b'\n' {
+        return m;
+    }
+    base
 }
 
 pub(crate) fn read(table: &[u8]) {
-    let m = change::fresh();
-    let row = row::lettered(b' ');
-    let mut r = Reading {
-        base: m,
-        state: m,
-        row: row,
-        part: b'\n',
-    };
+    let mut base = change::fresh();
+    let mut m = base;
+    let mut row = row::lettered(b' ');
+    let mut part = b'\n';
     let mut i: usize = 0;
     while i < table.len() {
-        r = fed(r, table[i]);
+        let byte = table[i];
+        m = stated(base, m, row, part, byte);
+        base = based(base, m, part, byte);
+        echo(part, byte);
+        row = row::fed(row, byte);
+        part = follows(part, byte);
         i += 1;
     }
 }

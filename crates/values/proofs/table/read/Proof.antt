@@ -6,10 +6,10 @@ use Rattle.values.proofs.table.read.Statement.{statement}
 use Rattle.values.proofs.table.read.Tie as tie
 
 abbrev Inv-loop : tie.InvT-loop
-Inv-loop table r₀ i₀ r i = Unit {0}
+Inv-loop table base₀ m₀ row₀ part₀ i₀ base m row part i = Unit {0}
 
 abbrev μ-loop : tie.MeasureT-loop
-μ-loop table r₀ i₀ r i = (length table) - i
+μ-loop table base₀ m₀ row₀ part₀ i₀ base m row part i = (length table) - i
 
 fresh-requires : tie.Need-fresh-requires Inv-loop μ-loop
 fresh-requires c κs = search needs
@@ -20,11 +20,23 @@ lettered-requires c κs = search needs
 loop-holds : tie.Need-loop-holds Inv-loop μ-loop
 loop-holds c = search needs
 
-shared-slice-read-fed : tie.Need-shared-slice-read-fed Inv-loop μ-loop
-shared-slice-read-fed c = search needs
+shared-slice-read-byte : tie.Need-shared-slice-read-byte Inv-loop μ-loop
+shared-slice-read-byte c = search needs
+
+stated-requires : tie.Need-stated-requires Inv-loop μ-loop
+stated-requires c κs = search needs
+
+based-requires : tie.Need-based-requires Inv-loop μ-loop
+based-requires c κs = search needs
+
+echo-requires : tie.Need-echo-requires Inv-loop μ-loop
+echo-requires c κs = search needs
 
 fed-requires : tie.Need-fed-requires Inv-loop μ-loop
 fed-requires c κs = search needs
+
+follows-requires : tie.Need-follows-requires Inv-loop μ-loop
+follows-requires c κs = search needs
 
 add-i : tie.Need-add-i Inv-loop μ-loop
 add-i c = search needs
@@ -47,8 +59,12 @@ read-spec =
     fresh-requires
     lettered-requires
     loop-holds
-    shared-slice-read-fed
+    shared-slice-read-byte
+    stated-requires
+    based-requires
+    echo-requires
     fed-requires
+    follows-requires
     add-i
     loop-less
     loop-again
