@@ -59,7 +59,7 @@ lowest {P} {x} z q =
       given = λ n h. (
         λ e. (subst P e (q .applies (λ y. h (sym e ∙ y))), λ i b p. elim (ℕ-discrete i 0) [ yes c ↦ z (subst P c p) | no c ↦ (let d : x ≤ i = q .first i (omega arith) p .1 in omega arith) ]),
         λ a. let d : (x ≢ 0) × (x ≤ n) = q .first n (omega arith) (a .0) in let u : x ≤ n = d .1 in
-        elim (decLt x n) [ yes b ↦ absurd (a .1 x b (q .applies (d .0))) | no b ↦ omega arith ],
+            elim (decLt x n) [ yes b ↦ absurd (a .1 x b (q .applies (d .0))) | no b ↦ omega arith ],
       );
       none = (
         λ e n p. elim (ℕ-discrete n 0) [ yes c ↦ z (subst P c p) | no c ↦ q .first n (omega arith) p .0 e ],
