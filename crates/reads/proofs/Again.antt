@@ -25,13 +25,13 @@ use Rattle.reads.specs.Reading.{ReadsAlike, WritesAgain, OneReading}
 pub reads-alike : ReadsAlike
 reads-alike s t e = ap readingOf e
 
-byte-low : (s : List ℕ) → areBytes s ≡ true → (i : ℕ) → byte s i < 256
+pub byte-low : (s : List ℕ) → areBytes s ≡ true → (i : ℕ) → byte s i < 256
 byte-low [] h i = omega arith
 byte-low (b ∷ s) h zero = ltb-true b 256 (and-eq-true-iff (ltb b 256) (areBytes s) .0 h .0)
 byte-low (b ∷ s) h (suc i) = byte-low s (and-eq-true-iff (ltb b 256) (areBytes s) .0 h .1) i
 
 -- n bytes from i
-abbrev from : List ℕ → ℕ → ℕ → List ℕ
+abbrev pub from : List ℕ → ℕ → ℕ → List ℕ
 from s i zero = []
 from s i (suc n) = byte s i ∷ from s (i + 1) n
 
@@ -101,7 +101,7 @@ module _ (s : List ℕ) (bs : areBytes s ≡ true) (i : ℕ) where
       = λ x f j k. f _ _ _ _ (byte-low s bs j) (byte-low s bs (j + 1)) (byte-low s bs k) (byte-low s bs (k + 1)) in
       rw (w _ d0 (i + 3) (i + 3 + 2), w _ d1 (i + 3) (i + 3 + 2), w _ d2 (i + 3) (i + 3 + 2), w _ d3 (i + 3) (i + 3 + 2), w _ c0 (i + 7) (i + 7), w _ c1 (i + 7) (i + 7)) (simp add-assoc)
 
-  step-same : (k : ℕ) → (widthOf k ≡ 0 → ⊥) → Same k
+  pub step-same : (k : ℕ) → (widthOf k ≡ 0 → ⊥) → Same k
   unfolding stepMade shortMade repairMade widthOf
   step-same k h =
       each Same 1 15
@@ -109,12 +109,12 @@ module _ (s : List ℕ) (bs : areBytes s ≡ true) (i : ℕ) where
       k (kind-low k h .0) (kind-low k h .1)
 
 -- what a step that was read says of the bytes
-record Found (s : List ℕ) (at : ℕ) (step : Step) (behind : ℕ) : Type 0 where
-  here : at < length s
-  wide : widthOf (byte s at) ≡ 0 → ⊥
-  fits : at + widthOf (byte s at) < length s
-  made : stepMade s (byte s at) (at + 1) ≡ step
-  next : behind ≡ at + 1 + widthOf (byte s at)
+pub record Found (s : List ℕ) (at : ℕ) (step : Step) (behind : ℕ) : Type 0 where
+  pub here : at < length s
+  pub wide : widthOf (byte s at) ≡ 0 → ⊥
+  pub fits : at + widthOf (byte s at) < length s
+  pub made : stepMade s (byte s at) (at + 1) ≡ step
+  pub next : behind ≡ at + 1 + widthOf (byte s at)
 
 picked : (P : Type 0) (b₁ b₂ b₃ : Bool) (x step : Step) (y c : ℕ) → (b₁ ≡ false → b₂ ≡ false → b₃ ≡ false → x ≡ step → y ≡ c → P)
     → pick b₁ Bad (pick (b₂ || b₃) Bad (Got x y)) ≡ Got step c → P
@@ -123,7 +123,7 @@ picked P false true b₃ x step y c f e = let z : _≡_ {A = ℕ} 0 1 = cc in le
 picked P false false true x step y c f e = let z : _≡_ {A = ℕ} 0 1 = cc in let w : ⊥ = omega arith in absurd w
 picked P false false false x step y c f e = f refl refl refl (cc) (cc)
 
-found : (s : List ℕ) (at : ℕ) (step : Step) (behind : ℕ) → readStep s at ≡ Got step behind → Found s at step behind
+pub found : (s : List ℕ) (at : ℕ) (step : Step) (behind : ℕ) → readStep s at ≡ Got step behind → Found s at step behind
 unfolding readStep
 found s at step behind e =
     let k : ℕ = byte s at in

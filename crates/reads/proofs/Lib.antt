@@ -4,3 +4,5 @@ pub mod Formed
 pub mod Fold
 pub mod Example
 pub mod Again
+pub mod Both
+pub mod Applies
