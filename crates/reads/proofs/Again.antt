@@ -8,7 +8,7 @@ use native.Mathlib.Omega.{arith}
 use native.Mathlib.Numerals.{add-one}
 use native.Mathlib.Nat.{add-assoc}
 use lib.Dec.{leb, ltb, eqb}
-use lib.ListN.{length, drop, length-append, List·getD-eq-default}
+use lib.ListN.{length, drop, List·getD-eq-default}
 use lib.Seq.{drop-cons, drop-length}
 use lib.Pow.{areBytes}
 use borrow.Author.Tests.{ltb-true, ltb-false, leb-false, eqb-false, eqb-true}
@@ -19,6 +19,7 @@ use Rattle.protocol.specs.declared.Read.the-variants.{Got, Bad}
 use Rattle.protocol.specs.Book.{byte, low16, widths, widthOf, repairMade, shortMade, stepMade, readStep, onRead, validFrom, stepsFrom, homeRead, listRead, actorsRead, startOf, countOf, wellFormed, readingOf}
 use Rattle.protocol.specs.Run.{stepsRead}
 use Rattle.protocol.specs.Write.{written, writtenSteps, writtenRows, writtenBook}
+use Rattle.unbroken.proofs.Laws.Every.{length-table}
 use Rattle.reads.proofs.Formed.{valid-all, start-fits, count-steps}
 use Rattle.reads.specs.Reading.{ReadsAlike, WritesAgain, OneReading}
 
@@ -153,11 +154,6 @@ steps-again s bs zero at e = ap (λ (k : ℕ). drop k s) (eqb-true at (length s)
 steps-again s bs (suc n) at e = again-on s bs n at (readStep s at) refl (steps-again s bs n) e
 
 -- the rows, one more at a time
-length-table : (f : ℕ → ℕ) (n : ℕ) → length (table f n) ≡ n
-unfolding table
-length-table f zero = refl
-length-table f (suc n) = simp length-append (omega (arith, length-table f n))
-
 rows-snoc : (xs ys : List ℕ) (x y : ℕ) → length xs ≡ length ys → writtenRows (xs ++ (x ∷ [])) (ys ++ (y ∷ [])) ≡ writtenRows xs ys ++ (x ∷ y ∷ [])
 unfolding writtenRows
 rows-snoc [] [] x y e = refl
