@@ -5,6 +5,7 @@ pub mod Every
 pub mod Says
 pub mod Lowest
 pub mod SlotTests
+pub mod Applies
 pub mod Whole
 pub mod Unbroken
 pub mod Counting

@@ -3,3 +3,4 @@ pub mod EverySlot
 pub mod Unbroken
 pub mod Bounds
 pub mod Lowest
+pub mod Applies
