@@ -224,61 +224,71 @@ low-things : (l : List Thing) → Low (map valueOf l) → (x : Thing) → List·
 low-things [] f x h = absurd (List·Memᴰ·not-nil h)
 low-things (y ∷ l) f x h = ⊎-elim (λ e. subst (λ (z : Thing). valueOf z < 256) (sym e) (f .0)) (λ g. low-things l (f .1) x g) (List·Memᴰ·cases-cons h)
 
--- a step is within range exactly if it is written as bytes
-range-low : (s : Step) → StepInRange s → Low (written s)
-range-low (Send from to own word causes) f =
-    let t = things-low (named (Send from to own word causes)) (f .bytes) in
-    let w = f .wide from to own word causes refl in
-    let w0 : word < 4294967296 = w .0 in
-    let w1 : causes < 65536 = w .1 in
-    (omega arith, (t .0, (t .1 .0, (t .1 .1 .0, (omega arith, (omega arith, (omega arith, (omega arith, (omega arith, (omega arith, tt))))))))))
-range-low (Receive k) f = (omega arith, things-low (named (Receive k)) (f .bytes))
-range-low (PreCheck a) f = (omega arith, things-low (named (PreCheck a)) (f .bytes))
-range-low (SendRecord a) f = (omega arith, things-low (named (SendRecord a)) (f .bytes))
-range-low (Timeout a p) f = (omega arith, things-low (named (Timeout a p)) (f .bytes))
-range-low (TakeRecord p k r) f = (omega arith, things-low (named (TakeRecord p k r)) (f .bytes))
-range-low (TakeAck p k r) f = (omega arith, things-low (named (TakeAck p k r)) (f .bytes))
-range-low (PostCheck a) f = (omega arith, things-low (named (PostCheck a)) (f .bytes))
-range-low (TakeRepair k r) f = (omega arith, things-low (named (TakeRepair k r)) (f .bytes))
-range-low (SendUpdate k r) f = (omega arith, things-low (named (SendUpdate k r)) (f .bytes))
-range-low (TakeUpdate p k r) f = (omega arith, things-low (named (TakeUpdate p k r)) (f .bytes))
-range-low (TakeUack p k r) f = (omega arith, things-low (named (TakeUack p k r)) (f .bytes))
-range-low (Expire k r) f = (omega arith, things-low (named (Expire k r)) (f .bytes))
-range-low (Lose w p k r) f = (omega arith, things-low (named (Lose w p k r)) (f .bytes))
-range-low (Crash p) f = (omega arith, things-low (named (Crash p)) (f .bytes))
-range-low (Restart p) f = (omega arith, things-low (named (Restart p)) (f .bytes))
+-- a send, or a kind whose fields are what it names, a byte each
+data Form (s : Step) : Type 0 where
+  long : (from to own word causes : ℕ) → s ≡ Send from to own word causes → Form s
+  short : (kind : ℕ) → 1 < kind → kind < 256 → written s ≡ kind ∷ map valueOf (named s) → Form s
 
--- a kind that is no send
-short-range : (s : Step) → (getD (written s) 0 0 ≡ 1 → ⊥) → Low (map valueOf (named s)) → StepInRange s
-short-range s n h = record { bytes = low-things (named s) h; wide = λ from to own word causes e. absurd (n (ap (λ (x : Step). getD (written x) 0 0) e)) }
+form : (s : Step) → Form s
+form (Send from to own word causes) = long from to own word causes refl
+form (Receive k) = short 2 (omega arith) (omega arith) refl
+form (PreCheck a) = short 3 (omega arith) (omega arith) refl
+form (SendRecord a) = short 4 (omega arith) (omega arith) refl
+form (Timeout a p) = short 5 (omega arith) (omega arith) refl
+form (TakeRecord p k r) = short 6 (omega arith) (omega arith) refl
+form (TakeAck p k r) = short 7 (omega arith) (omega arith) refl
+form (PostCheck a) = short 8 (omega arith) (omega arith) refl
+form (TakeRepair k r) = short 9 (omega arith) (omega arith) refl
+form (SendUpdate k r) = short 10 (omega arith) (omega arith) refl
+form (TakeUpdate p k r) = short 11 (omega arith) (omega arith) refl
+form (TakeUack p k r) = short 12 (omega arith) (omega arith) refl
+form (Expire k r) = short 13 (omega arith) (omega arith) refl
+form (Lose w p k r) = short 14 (omega arith) (omega arith) refl
+form (Crash p) = short 15 (omega arith) (omega arith) refl
+form (Restart p) = short 16 (omega arith) (omega arith) refl
+
+-- a step is within range exactly if it is written as bytes
+module _ (from to own word causes : ℕ) where
+  abbrev send : Step
+  send = Send from to own word causes
+
+  send-low : StepInRange send → Low (written send)
+  send-low f =
+      let t = things-low (named send) (f .bytes) in
+      let w : word < 4294967296 = f .wide from to own word causes refl .0 in
+      let c : causes < 65536 = f .wide from to own word causes refl .1 in
+      (omega arith, (t .0, (t .1 .0, (t .1 .1 .0, (omega arith, (omega arith, (omega arith, (omega arith, (omega arith, (omega arith, tt))))))))))
+
+  send-range : Low (written send) → StepInRange send
+  send-range h =
+      let b : word / 16777216 < 256 = h .1 .1 .1 .1 .1 .1 .1 .0 in
+      let d : causes / 256 < 256 = h .1 .1 .1 .1 .1 .1 .1 .1 .1 .0 in
+      let w : word < 4294967296 = omega arith in
+      let c : causes < 65536 = omega arith in
+      record {
+        bytes = low-things (named send) (h .1 .0, (h .1 .1 .0, (h .1 .1 .1 .0, tt)));
+        wide = λ from′ to′ own′ word′ causes′ e. (let f : word ≡ word′ = cc in omega arith, (let f : causes ≡ causes′ = cc in omega arith));
+      }
+
+range-low : (s : Step) → StepInRange s → Low (written s)
+range-low s f = go (form s)
+  where
+    go : Form s → Low (written s)
+    go (long from to own word causes e) = subst (λ (x : Step). Low (written x)) (sym e) (send-low from to own word causes (subst StepInRange e f))
+    go (short kind l h e) = subst Low (sym e) (h, things-low (named s) (f .bytes))
 
 low-range : (s : Step) → Low (written s) → StepInRange s
-low-range (Send from to own word causes) h =
-    let b = h .1 .1 .1 .1 .1 .1 .1 .0 in
-    let d = h .1 .1 .1 .1 .1 .1 .1 .1 .1 .0 in
-    let b′ : word / 16777216 < 256 = b in
-    let d′ : causes / 256 < 256 = d in
-    let w0 : word < 4294967296 = omega arith in
-    let w1 : causes < 65536 = omega arith in
-    record {
-      bytes = low-things (named (Send from to own word causes)) (h .1 .0, (h .1 .1 .0, (h .1 .1 .1 .0, tt)));
-      wide = λ from′ to′ own′ word′ causes′ e. (let f : word ≡ word′ = cc in omega arith, (let f : causes ≡ causes′ = cc in omega arith));
-    }
-low-range (Receive k) h = short-range (Receive k) (λ e. omega arith) (h .1)
-low-range (PreCheck a) h = short-range (PreCheck a) (λ e. omega arith) (h .1)
-low-range (SendRecord a) h = short-range (SendRecord a) (λ e. omega arith) (h .1)
-low-range (Timeout a p) h = short-range (Timeout a p) (λ e. omega arith) (h .1)
-low-range (TakeRecord p k r) h = short-range (TakeRecord p k r) (λ e. omega arith) (h .1)
-low-range (TakeAck p k r) h = short-range (TakeAck p k r) (λ e. omega arith) (h .1)
-low-range (PostCheck a) h = short-range (PostCheck a) (λ e. omega arith) (h .1)
-low-range (TakeRepair k r) h = short-range (TakeRepair k r) (λ e. omega arith) (h .1)
-low-range (SendUpdate k r) h = short-range (SendUpdate k r) (λ e. omega arith) (h .1)
-low-range (TakeUpdate p k r) h = short-range (TakeUpdate p k r) (λ e. omega arith) (h .1)
-low-range (TakeUack p k r) h = short-range (TakeUack p k r) (λ e. omega arith) (h .1)
-low-range (Expire k r) h = short-range (Expire k r) (λ e. omega arith) (h .1)
-low-range (Lose w p k r) h = short-range (Lose w p k r) (λ e. omega arith) (h .1)
-low-range (Crash p) h = short-range (Crash p) (λ e. omega arith) (h .1)
-low-range (Restart p) h = short-range (Restart p) (λ e. omega arith) (h .1)
+low-range s f = go (form s)
+  where
+    go : Form s → StepInRange s
+    go (long from to own word causes e) = subst StepInRange (sym e) (send-range from to own word causes (subst (λ (x : Step). Low (written x)) e f))
+    go (short kind l h e) =
+        record {
+          bytes = low-things (named s) (subst Low e f .1);
+          wide = λ from to own word causes q.
+              let a : kind ≡ 1 = sym (ap (λ (x : List ℕ). getD x 0 0) e) ∙ ap (λ (x : Step). getD (written x) 0 0) q in
+              absurd (omega arith);
+        }
 
 steps-bytes : (l : List Step) → ((x : Step) → List·Memᴰ x l → StepInRange x) → areBytes (writtenSteps l) ≡ true
 unfolding writtenSteps
