@@ -15,6 +15,7 @@ pub data Applies (m : State) : ℕ → Type 0 where
   -- 5 store down: any store, for the drain
   isDown : (p : ℕ) → p < m .stores → isUp m p ≡ false → Applies m 5
 
+-- The lowest number that applies is given.
 abbrev pub DrainRefusals : Type 0
 DrainRefusals = (m : State) → IsLowest (Applies m) (drainOf m .answer)
 

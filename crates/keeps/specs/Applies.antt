@@ -1,5 +1,5 @@
--- When each refusal number applies to a step: document 01's table, row by row. Each row is judged by itself; where a step names what
--- isn't in this machine, the rows behind read slots that are blank or another's, and 2 is lower.
+-- When each refusal number applies to a step: document 01's table, row by row, each judged by itself. A row whose words need what isn't
+-- there (a store outside the machine, the head of an empty queue) reads a blank or another's slot; then 2 or 7 applies, which is lower.
 use Prim.Native.Nat.{ℕ, _≤_, _<_}
 use mathlib.Core.Path.{_≡_}
 use mathlib.Core.Bool.{true, false}
@@ -17,10 +17,11 @@ use Rattle.protocol.specs.declared.Step.the-variants.{Send, Receive, PreCheck, 
 use Rattle.keeps.specs.Taken.{ReceivedBy}
 use Rattle.unbroken.specs.Lowest.{IsLowest}
 
--- what a step names
+-- what a step may name
 pub data Thing : Type 0 where
   actor store key role what : ℕ → Thing
 
+-- its number
 abbrev pub valueOf : Thing → ℕ
 valueOf (actor a) = a
 valueOf (store p) = p
@@ -28,6 +29,7 @@ valueOf (key k) = k
 valueOf (role r) = r
 valueOf (what w) = w
 
+-- all that a step names, in the order of its fields
 abbrev pub named : Step → List Thing
 named (Send from to own word causes) = actor from ∷ actor to ∷ store own ∷ []
 named (Receive k) = key k ∷ []
@@ -103,5 +105,6 @@ pub data Applies (m : State) : Step → ℕ → Type 0 where
   -- 9 a cause that from hasn't received, or that isn't made
   unreceived : (from to own word causes j : ℕ) → j < 16 → bit causes j ≡ true → (ReceivedBy m from j → ⊥) → Applies m (Send from to own word causes) 9
 
+-- The lowest number that applies is given.
 abbrev pub StepRefusals : Type 0
 StepRefusals = (m : State) (s : Step) → IsLowest (Applies m s) (stepOf m s .answer)

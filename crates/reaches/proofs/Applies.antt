@@ -1,14 +1,15 @@
 -- The answer of a walk is the lowest number that applies to it. The search and the list of what it looks up go side by side: while all
--- is found they meet the same keys, and the search is spoiled exactly if the list has one that isn't. Assumes nothing.
+-- is found they meet the same keys in the same order, and the search is spoiled exactly if the list has one that isn't. Assumes nothing.
 use Prim.Native.Nat.{ℕ, zero, suc, _+_, _-_, _≤_, _<_}
 use mathlib.Core.Path.{_≡_, refl, sym, ap, subst, _∙_}
 use mathlib.Core.Logic.{_⊎_, inl, inr, ⊎-elim}
 use mathlib.Core.Bool.{Bool, true, false, _&&_, _||_, not, false≢true}
-use mathlib.Core.List.{List, [], _∷_, _++_, List·Memᴰ, List·Memᴰ·head, List·Memᴰ·not-nil, List·Memᴰ·cases-cons, List·Memᴰ·append-cases, Memᴰ·append-left, Memᴰ·append-right}
+use mathlib.Core.List.{List, [], _∷_, _++_, map, map-append, List·Memᴰ, List·Memᴰ·head, List·Memᴰ·not-nil, List·Memᴰ·cases-cons, List·Memᴰ·append-cases, Memᴰ·append-left, Memᴰ·append-right}
 use native.Mathlib.Omega.{arith}
+use native.Mathlib.Numerals.{add-one}
 use lib.Dec.{leb, eqb}
-use lib.ListN.{length, getD, set, length-set}
-use lib.Seq.{getD-set-same, getD-set-other}
+use lib.ListN.{length, getD, set, take, length-set}
+use lib.Seq.{getD-set-same, getD-set-other, take-suc-set}
 use borrow.Author.Tests.{not-true, eqb-true, eqb-false, eq-eqb, ne-eqb, leb-true, leb-false, le-leb}
 use Rattle.protocol.specs.Words.{pick, bit}
 use Rattle.protocol.specs.Slots.{number, view, contents}
@@ -20,9 +21,13 @@ use Rattle.protocol.specs.Walk.{added, spoiled, foundOf, causesHeld, hopOf, eac
 use Rattle.unbroken.proofs.Laws.{unbroken}
 use Rattle.unbroken.proofs.Laws.Tests.{by-test, not-both, and-left, and-right, and-both, or-of, not-of}
 use Rattle.unbroken.proofs.Laws.Says.{Says}
+use Rattle.reaches.specs.Tally.{Tally}
+use Rattle.reaches.specs.Reaches.{keysOf}
+use Rattle.reaches.proofs.Counted.{room, tally-added, tally-unmet}
 use Rattle.reaches.proofs.Keys.{none-met, same-or}
+use Rattle.reaches.proofs.Laws.{Answer, refusing, answering, answer}
 use Rattle.unbroken.specs.Lowest.{IsLowest}
-use Rattle.reaches.specs.Applies.{Lookup, met, eachOf, looked, lookups, Unfound, isOpen, noLink, noEntry, Applies, isBroken, isOutside, isUnfound, WalkRefusals}
+use Rattle.reaches.specs.Applies.{Lookup, met, eachOf, looked, lookups, Unfound, isOpen, noLink, noEntry, Applies, isBroken, isOutside, isUnfound, WalkRefusals, KeysLookedUp}
 use Rattle.unbroken.proofs.Laws.Lowest.{lowest, from-none, from-test}
 
 met-more : (l : List Lookup) (x : Lookup) (i : ℕ) → met (l ++ (x ∷ [])) i ≡ met l i || eqb (x .key) i
@@ -76,28 +81,51 @@ module _ (m : State) where
 
   -- the search, and the list of what it looked up
   record Beside (w : Met) (l : List Lookup) : Type 0 where
-    long : length (w .met) ≡ 16
+    tally : Tally w
+    room : length (w .keys) ≡ 16
     same : w .fine ≡ true → (i : ℕ) → getD (w .met) i false ≡ met l i
     good : w .fine ≡ true → (x : Lookup) → List·Memᴰ x l → Found x
     bad : w .fine ≡ false → (x : Lookup) × List·Memᴰ x l × Lacking x
+    listed : w .fine ≡ true → take (w .count) (w .keys) ≡ map (λ (x : Lookup). x .key) l
 
   beside-start : Beside unmet []
   unfolding met
-  beside-start = record { long = refl; same = λ f i. none-met i; good = λ f x h. absurd (List·Memᴰ·not-nil h); bad = λ f. absurd (false≢true (sym f)) }
+  beside-start =
+      record {
+        tally = tally-unmet;
+        room = refl;
+        same = λ f i. none-met i;
+        good = λ f x h. absurd (List·Memᴰ·not-nil h);
+        bad = λ f. absurd (false≢true (sym f));
+        listed = λ f. refl;
+      }
 
-  beside-bad : {w : Met} {l : List Lookup} → length (w .met) ≡ 16 → w .fine ≡ false → (x : Lookup) → List·Memᴰ x l → Lacking x → Beside w l
-  beside-bad {w} {l} long f x h e = record { long = long; same = λ t. not-both (w .fine) t f; good = λ t. not-both (w .fine) t f; bad = λ t. (x, h, e) }
+  beside-bad : {w : Met} {l : List Lookup} → Tally w → length (w .keys) ≡ 16 → w .fine ≡ false → (x : Lookup) → List·Memᴰ x l → Lacking x → Beside w l
+  beside-bad {w} {l} tally room f x h e =
+      record {
+        tally = tally;
+        room = room;
+        same = λ t. not-both (w .fine) t f;
+        good = λ t. not-both (w .fine) t f;
+        bad = λ t. (x, h, e);
+        listed = λ t. not-both (w .fine) t f;
+      }
 
   -- a key that is found is met now
-  beside-added : {w : Met} {l : List Lookup} (k link : ℕ) → k < 16 → w .fine ≡ true → Found (at k link) → Beside w l → Beside (added w k) (l ++ (at k link ∷ []))
-  beside-added {w} {l} k link low fine found b =
+  beside-added : {w : Met} {l : List Lookup} (k link : ℕ) → k < 16 → w .fine ≡ true → getD (w .met) k false ≡ false → Found (at k link) → Beside w l
+      → Beside (added w k) (l ++ (at k link ∷ []))
+  beside-added {w} {l} k link low fine new found b =
+      let fits : w .count < length (w .keys) = omega (arith, b .room, room (b .tally) low new) in
+      let more : take (w .count + 1) (set (w .keys) (w .count) k) ≡ take (w .count) (w .keys) ++ (k ∷ []) = rw add-one (take-suc-set (w .keys) (w .count) k fits) in
       record {
-        long = length-set (w .met) k true ∙ b .long;
+        tally = tally-added w k (b .tally) low new;
+        room = length-set (w .keys) (w .count) k ∙ b .room;
         same = λ f i. same-or i k
-            (λ q. (ap (λ (j : ℕ). getD (set (w .met) k true) j false) q ∙ getD-set-same (w .met) k true false (omega (arith, b .long))) ∙ sym (met-more l (at k link) i ∙ or-of (met l i) (eqb k i) (λ z. eq-eqb k i (sym q))))
+            (λ q. (ap (λ (j : ℕ). getD (set (w .met) k true) j false) q ∙ getD-set-same (w .met) k true false (omega (arith, b .tally .long))) ∙ sym (met-more l (at k link) i ∙ or-of (met l i) (eqb k i) (λ z. eq-eqb k i (sym q))))
             (λ n. getD-set-other (w .met) k i true false n ∙ b .same f i ∙ sym (met-more l (at k link) i ∙ or-none (met l i) (eqb k i) (ne-eqb k i (λ q. n (sym q)))));
         good = λ f x h. ⊎-elim (λ g. b .good f x g) (λ g. ⊎-elim (λ e. subst (λ (y : Lookup). Found y) (sym e) found) (λ n. absurd (List·Memᴰ·not-nil n)) (List·Memᴰ·cases-cons g)) (List·Memᴰ·append-cases l h);
         bad = λ f. not-both (w .fine) fine f;
+        listed = λ f. more ∙ ap (λ (i : List ℕ). i ++ (k ∷ [])) (b .listed f) ∙ sym (map-append (λ (x : Lookup). x .key) l (at k link ∷ []));
       }
 
   -- the loop over the causes, where each visit stays beside
@@ -127,13 +155,13 @@ module _ (m : State) where
     turn : (fine seen found listed : Bool) → w .fine ≡ fine → getD (w .met) k false ≡ seen → foundOf m k link ≡ found → met l k ≡ listed
         → Beside (pick (not fine) w (pick seen w (pick found search (spoiled w)))) (pick listed l listing)
     turn false seen found true e s f n = b
-    turn false seen found false e s f n = let x = b .bad e in beside-bad (b .long) e (x .0) (stays-in (x .0) (Memᴰ·append-left (at k link ∷ []) (x .1))) (x .2)
+    turn false seen found false e s f n = let x = b .bad e in beside-bad (b .tally) (b .room) e (x .0) (stays-in (x .0) (Memᴰ·append-left (at k link ∷ []) (x .1))) (x .2)
     turn true true found true e s f n = b
     turn true true found false e s f n = not-both (met l k) (sym (b .same e k) ∙ s) n
     turn true false found true e s f n = not-both (met l k) n (sym (b .same e k) ∙ s)
     turn true false true false e s f n =
-        each-beside (λ j. visitOf depth m j (hopOf m k link j)) (λ j. looked depth m j (hopOf m k link j)) k onward (causesHeld m k link) k 0 (added w k) (l ++ (at k link ∷ [])) (omega arith) (beside-added k link low e f b)
-    turn true false false false e s f n = beside-bad (b .long) refl (at k link) (stays-in (at k link) (Memᴰ·append-right l (List·Memᴰ·head refl))) f
+        each-beside (λ j. visitOf depth m j (hopOf m k link j)) (λ j. looked depth m j (hopOf m k link j)) k onward (causesHeld m k link) k 0 (added w k) (l ++ (at k link ∷ [])) (omega arith) (beside-added k link low e s f b)
+    turn true false false false e s f n = beside-bad (record { long = b .tally .long; counted = b .tally .counted }) (b .room) refl (at k link) (stays-in (at k link) (Memᴰ·append-right l (List·Memᴰ·head refl))) f
 
   visit-beside : (depth k link : ℕ) (w : Met) (l : List Lookup) → k < 16 → Beside w l → Beside (visitOf depth m k link w) (looked depth m k link l)
   unfolding visitOf looked
@@ -189,11 +217,13 @@ module _ (m : State) where
     told-unfound (isUnfound x h u) q = (x, h, u)
 
     -- the search is spoiled exactly if it looked up what isn't found
-    spoiled-says : brokenOf m ≡ false → k < m .made → Says (not (walkedFrom m k .fine)) (Applies m k 13)
+    begun : brokenOf m ≡ false → k < m .made → Beside (walkedFrom m k) (lookups m k)
     unfolding walkedFrom
+    begun u l = let made = unbroken m u .made16 in visit-beside 16 k (view m (number k 0) .store + 1) unmet [] (omega arith) beside-start
+
+    spoiled-says : brokenOf m ≡ false → k < m .made → Says (not (walkedFrom m k .fine)) (Applies m k 13)
     spoiled-says u l =
-        let made = unbroken m u .made16 in
-        let b : Beside (walkedFrom m k) (lookups m k) = visit-beside 16 k (view m (number k 0) .store + 1) unmet [] (omega arith) beside-start in
+        let b : Beside (walkedFrom m k) (lookups m k) = begun u l in
         record {
           tells = λ e. (let x = b .bad (not-true (walkedFrom m k .fine) e) in isUnfound (x .0) (x .1) (unfound (x .0) (x .2)));
           told = λ a. let x = told-unfound a refl in by-test (walkedFrom m k .fine) (λ f. absurd (not-found (x .0) (x .2) (b .good f (x .0) (x .1)))) (λ f. not-of (walkedFrom m k .fine) f);
@@ -217,3 +247,10 @@ walk-refusals m k =
     (λ o. from-test {test = not (w .fine)} (omega arith) (omega arith) (spoiled-says m k b (leb-false (m .made) k o))
     (λ i l u a. ⊎-elim (λ e. omega arith) (λ r. ⊎-elim (λ e. omega arith) (λ e. omega arith) r) (numbers m k a))
     (λ f. from-none (λ i l a. ⊎-elim (λ e. omega arith) (λ r. ⊎-elim (λ e. omega arith) (λ e. omega arith) r) (numbers m k a)))))))
+
+pub keys-looked-up : KeysLookedUp
+keys-looked-up m k z = go (answer m k)
+  where
+    go : Answer m k (walkOf m k) → keysOf (walkOf m k) ≡ map (λ (x : Lookup). x .key) (lookups m k)
+    go (refusing n h e) = absurd (h (sym (ap (λ r. r .answer) e) ∙ z))
+    go (answering b l f e) = ap keysOf e ∙ begun m k b l .listed f

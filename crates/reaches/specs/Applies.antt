@@ -2,7 +2,7 @@
 use Prim.Native.Nat.{ℕ, zero, suc, _+_, _-_, _≤_}
 use mathlib.Core.Path.{_≡_}
 use mathlib.Core.Bool.{Bool, true, false, _||_}
-use mathlib.Core.List.{List, [], _∷_, _++_, List·Memᴰ}
+use mathlib.Core.List.{List, [], _∷_, _++_, map, List·Memᴰ}
 use lib.Dec.{eqb}
 use Rattle.protocol.specs.Words.{pick, bit}
 use Rattle.protocol.specs.Slots.{number, view, contents}
@@ -11,6 +11,7 @@ use Rattle.protocol.specs.Closed.{closedOf}
 use Rattle.protocol.specs.declared.State.{State}
 use Rattle.protocol.specs.Walk.{causesHeld, hopOf, walkOf}
 use Rattle.unbroken.specs.Lowest.{IsLowest}
+use Rattle.reaches.specs.Reaches.{keysOf}
 
 -- a sender record that the walk looks up: its key, and the link by which it goes there, 0 for none and p + 1 for store p
 pub record Lookup : Type 0 where
@@ -53,5 +54,10 @@ pub data Applies (m : State) (k : ℕ) : ℕ → Type 0 where
   -- 13 walk meets an open interaction, or misses an entry or link
   isUnfound : (x : Lookup) → List·Memᴰ x (lookups m k) → Unfound m x → Applies m k 13
 
+-- The lowest number that applies is given.
 abbrev pub WalkRefusals : Type 0
 WalkRefusals = (m : State) (k : ℕ) → IsLowest (Applies m k) (walkOf m k .answer)
+
+-- an answered walk has the keys that it looked up, in that order
+abbrev pub KeysLookedUp : Type 0
+KeysLookedUp = (m : State) (k : ℕ) → walkOf m k .answer ≡ 0 → keysOf (walkOf m k) ≡ map (λ (x : Lookup). x .key) (lookups m k)

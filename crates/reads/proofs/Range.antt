@@ -180,4 +180,3 @@ module _ (s : List ℕ) (bs : areBytes s ≡ true) where
         few = omega (arith, count-steps s v);
         steps = all-range (countOf s) (startOf s);
       }
-

@@ -25,6 +25,7 @@ pub data Applies (s : List ℕ) (room : ℕ) : ℕ → Type 0 where
   -- 12 answer buffer shorter than the steps
   isShort : room < length (readingOf s .steps) → Applies s room 12
 
+-- The lowest number that applies is given.
 abbrev pub BookRefusals : Type 0
 BookRefusals = (s : List ℕ) (room : ℕ) → areBytes s ≡ true → IsLowest (Applies s room) (runOf s room .answer)
 
