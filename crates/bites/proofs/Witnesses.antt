@@ -30,10 +30,10 @@ use Rattle.protocol.specs.declared.Step.the-variants.{TakeAck}
 use Rattle.protocol.specs.Run.{freshOf}
 use Rattle.protocol.specs.Drain.{lowest, jobStep, entryStep, turnOf, allUp}
 use Rattle.reads.proofs.Example.{example-runs}
-use Rattle.guarantees.specs.Acknowledged.{Legal, after, acknowledged}
+use Rattle.guarantees.specs.Acknowledged.{Legal, after, acceptedInto, acknowledged}
 use Rattle.bites.specs.Setting.{M}
 use Rattle.bites.specs.Witnesses.{W3, W4, movedRecord, W5, W12, stayedReceipt, movedReceipt, downBetween, ackTakenDown, ackTakenThenUp, ackLostThenUp, Closes, Accepts, AcceptsEffect, Witnesses}
-use Rattle.bites.specs.Variants.{right, acceptedInto}
+use Rattle.bites.specs.Variants.{right}
 use Rattle.bites.proofs.Ruled.{ruled, ranRuled, ackedRuled}
 use Rattle.bites.proofs.Right.{courseRuled, stepsRuled, after-ruled, accepted-ruled, acknowledged-ruled, steps-ruled}
 

@@ -1,3 +1,4 @@
+pub mod Which
 pub mod Local
 pub mod Whole
 pub mod Touches

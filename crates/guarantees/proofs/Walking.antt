@@ -23,7 +23,7 @@ use Rattle.protocol.specs.Outcome.{Outcome}
 use Rattle.unbroken.proofs.Laws.{unbroken}
 use Rattle.protocol.specs.Step.{numberOf, afterOf, ruleOf, stepOf}
 use Rattle.protocol.specs.declared.Step.{Step}
-use Rattle.protocol.specs.declared.Step.the-variants.{Send, Receive, PreCheck, SendRecord, Timeout, TakeRecord, TakeAck, PostCheck, TakeRepair, SendUpdate, TakeUpdate, TakeUack, Expire, Lose, Crash, Restart}
+use Rattle.protocol.specs.declared.Step.the-variants.{Send}
 use Rattle.protocol.specs.Run.{ran, freshOf}
 use Rattle.keeps.specs.Laws.{madeBy}
 use Rattle.keeps.proofs.Conditions.{taken-when}
@@ -36,6 +36,7 @@ use Rattle.reaches.specs.Reaches.{Reach, Cause as Cause′}
 use Rattle.reaches.proofs.Laws.{answered-reaches}
 use Rattle.protocol.specs.declared.Met.{Met}
 use Rattle.protocol.specs.Walk.{added, spoiled, foundOf, causesHeld, receiptOf, hopOf, each, visitOf, unmet, walkedFrom, walkOf}
+use Rattle.guarantees.proofs.Which.{Kind, a-send, another, kinds}
 use Rattle.guarantees.proofs.Whole.{Everywhere, Here}
 use Rattle.guarantees.proofs.Heads.{stores8, absurd-eq}
 use Rattle.guarantees.proofs.Causes.{Cause, turn-causes}
@@ -171,37 +172,21 @@ unfolding stepOf ruleOf
 refused-step m s b n = rw (b, ne-eqb (numberOf m s) 0 n)
 
 module _ (m : State) (c : Reached m) where
-  other-kind : (s : Step) → numberOf m s ≡ 0 → causesOf s ≡ [] → madeBy m s ≡ m .made → Sending m s
-  other-kind s e f g =
-      nothing (ap (λ (a : Outcome). a .state .made) (taken-step m s (c .fine) e) ∙ made-counts m s ∙ g) (none-sent s f (eqb (stepOf m s .answer) 0))
-
-  taken : (s : Step) → numberOf m s ≡ 0 → Sending m s
-  taken (Send from to own word causes) e =
-      let x = taken-step m (Send from to own word causes) (c .fine) e in
-      let y = ap (λ (a : Outcome). a .answer) x in
-      sends causes (ap (λ (a : Outcome). a .state .made) x ∙ made-counts m (Send from to own word causes)) (rw (eq-eqb (stepOf m (Send from to own word causes) .answer) 0 y))
-      (ap (λ (a : Outcome). view (a .state) (number (m .made) 0) .causes) x ∙ ap (λ (w : View). w .causes) (new-sender m c from to own word causes (taken-when m (Send from to own word causes) e .room)))
-  taken (Receive k) e = other-kind (Receive k) e refl refl
-  taken (PreCheck a) e = other-kind (PreCheck a) e refl refl
-  taken (SendRecord a) e = other-kind (SendRecord a) e refl refl
-  taken (Timeout a p) e = other-kind (Timeout a p) e refl refl
-  taken (TakeRecord p k r) e = other-kind (TakeRecord p k r) e refl refl
-  taken (TakeAck p k r) e = other-kind (TakeAck p k r) e refl refl
-  taken (PostCheck a) e = other-kind (PostCheck a) e refl refl
-  taken (TakeRepair k r) e = other-kind (TakeRepair k r) e refl refl
-  taken (SendUpdate k r) e = other-kind (SendUpdate k r) e refl refl
-  taken (TakeUpdate p k r) e = other-kind (TakeUpdate p k r) e refl refl
-  taken (TakeUack p k r) e = other-kind (TakeUack p k r) e refl refl
-  taken (Expire k r) e = other-kind (Expire k r) e refl refl
-  taken (Lose what p k r) e = other-kind (Lose what p k r) e refl refl
-  taken (Crash p) e = other-kind (Crash p) e refl refl
-  taken (Restart p) e = other-kind (Restart p) e refl refl
+  taken : (s : Step) → numberOf m s ≡ 0 → Kind s → Sending m s
+  taken s e (a-send from to own word causes x) =
+      let y = taken-step m s (c .fine) e in
+      let z = ap (λ (a : Outcome). a .answer) y in
+      sends causes (ap (λ (a : Outcome). a .state .made) y ∙ made-counts m s ∙ ap (madeBy m) x) (rw (eq-eqb (stepOf m s .answer) 0 z, x))
+      (ap (λ (a : Outcome). view (a .state) (number (m .made) 0) .causes) y
+      ∙ rw x (ap (λ (w : View). w .causes) (new-sender m c from to own word causes (taken-when m (Send from to own word causes) (rw x at e) .room))))
+  taken s e (another f) =
+      nothing (ap (λ (a : Outcome). a .state .made) (taken-step m s (c .fine) e) ∙ made-counts m s ∙ rw f) (none-sent s (rw f) (eqb (stepOf m s .answer) 0))
 
   sending : (s : Step) → Sending m s
   sending s = go (ℕ-discrete (numberOf m s) 0)
     where
       go : Dec (numberOf m s ≡ 0) → Sending m s
-      go (yes e) = taken s e
+      go (yes e) = taken s e (kinds s)
       go (no n) =
           let x = refused-step m s (c .fine) n in
           let y : stepOf m s .answer ≢ 0 = λ z. n (sym (ap (λ (a : Outcome). a .answer) x) ∙ z) in

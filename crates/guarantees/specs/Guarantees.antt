@@ -17,7 +17,7 @@ use Rattle.protocol.specs.declared.Status.{Status}
 use Rattle.protocol.specs.Step.{stepOf}
 use Rattle.protocol.specs.Steps.{manyOf}
 use Rattle.protocol.specs.declared.Step.{Step}
-use Rattle.protocol.specs.declared.Step.the-variants.{Send, Receive, PreCheck, SendRecord, Timeout, TakeRecord, TakeAck, PostCheck, TakeRepair, SendUpdate, TakeUpdate, TakeUack, Expire, Lose, Crash, Restart}
+use Rattle.protocol.specs.Kinds.{onSend}
 use Rattle.protocol.specs.Book.{setupRead}
 use Rattle.protocol.specs.Run.{freshOf, runOf, bufferOf, stepsRead}
 use Rattle.protocol.specs.Drain.{allUp, drainOf}
@@ -27,22 +27,7 @@ use Rattle.guarantees.specs.Acknowledged.{Legal, after, accepted, acknow
 
 -- the causes of a send; no other step has any
 abbrev pub causesOf : Step → List ℕ
-causesOf (Send from to own word causes) = causes ∷ []
-causesOf (Receive k) = []
-causesOf (PreCheck a) = []
-causesOf (SendRecord a) = []
-causesOf (Timeout a p) = []
-causesOf (TakeRecord p k r) = []
-causesOf (TakeAck p k r) = []
-causesOf (PostCheck a) = []
-causesOf (TakeRepair k r) = []
-causesOf (SendUpdate k r) = []
-causesOf (TakeUpdate p k r) = []
-causesOf (TakeUack p k r) = []
-causesOf (Expire k r) = []
-causesOf (Lose what p k r) = []
-causesOf (Crash p) = []
-causesOf (Restart p) = []
+causesOf s = onSend s (λ from to own word causes. causes ∷ []) []
 
 -- the keys of a walk, in the order first met
 abbrev pub keysWalked : State → ℕ → List ℕ
