@@ -12,5 +12,6 @@ pub mod Steps
 pub mod Acks
 pub mod Closing
 pub mod Demand
+pub mod Sent
 pub mod Drained
 pub mod Walking

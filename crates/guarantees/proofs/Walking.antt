@@ -29,7 +29,8 @@ use Rattle.keeps.specs.Laws.{madeBy}
 use Rattle.keeps.proofs.Conditions.{taken-when}
 use Rattle.keeps.proofs.Laws.{made-counts}
 use Rattle.guarantees.specs.Acknowledged.{Legal, after}
-use Rattle.guarantees.specs.Guarantees.{causesOf, sentCauses, SentCause, SentReach, Drains, TheWalk}
+use Rattle.guarantees.specs.Guarantees.{SentCause, SentReach, Drains, TheWalk}
+use Rattle.guarantees.specs.Sent.{sentAs}
 use Rattle.protocol.specs.Drain.{allUp, drainOf}
 use Rattle.drains.specs.Drains.{stepsOf}
 use Rattle.reaches.specs.Reaches.{Reach, Cause as Cause′}
@@ -44,6 +45,7 @@ use Rattle.guarantees.proofs.Reached.{Reached, Causes, new-sender}
 use Rattle.guarantees.proofs.Steps.{Move, turns-to, unmade, moves, step-reached}
 use Rattle.guarantees.proofs.Demand.{fresh-reached, reached}
 use Rattle.reads.proofs.Some.{ran-append}
+use Rattle.guarantees.proofs.Sent.{sent-run, told}
 use Rattle.guarantees.proofs.Drained.{the-drain}
 use Rattle.guarantees.proofs.Closing.{Rests, closed-of, accurate}
 
@@ -147,98 +149,6 @@ module _ (m : State) (c : Reached m) (closed : (k : ℕ) → k < m .made → clo
   unfolding walkOf walkedFrom
   walk-answered k hk = rw (c .fine, lt-leb (m .made) k hk, visit-fine 16 k unmet hk refl)
 
--- the causes that a record holds are those of its send: a run from m keeps those of its interactions, and adds the later ones
-record Sent (m : State) (steps : List Step) : Type 0 where
-  old : (k : ℕ) → k < m .made → view (ran m steps) (number k 0) .causes ≡ view m (number k 0) .causes
-  new : (k : ℕ) → m .made ≤ k → k < ran m steps .made → getD (sentCauses m steps) (k - m .made) 0 ≡ view (ran m steps) (number k 0) .causes
-  grown : m .made ≤ ran m steps .made
-
--- one step: nothing is sent, or a send is taken whose interaction comes next
-data Sending (m : State) (s : Step) : Type 0 where
-  nothing : stepOf m s .state .made ≡ m .made → pick (eqb (stepOf m s .answer) 0) (causesOf s) [] ≡ [] → Sending m s
-  sends : (causes : ℕ) → stepOf m s .state .made ≡ m .made + 1 → pick (eqb (stepOf m s .answer) 0) (causesOf s) [] ≡ causes ∷ []
-      → view (stepOf m s .state) (number (m .made) 0) .causes ≡ causes → Sending m s
-
-none-sent : (s : Step) → causesOf s ≡ [] → (b : Bool) → pick b (causesOf s) [] ≡ []
-none-sent s e true = e
-none-sent s e false = refl
-
-taken-step : (m : State) (s : Step) → brokenOf m ≡ false → numberOf m s ≡ 0 → stepOf m s ≡ answered 0 (afterOf m s)
-unfolding stepOf ruleOf
-taken-step m s b e = rw (b, eq-eqb (numberOf m s) 0 e)
-
-refused-step : (m : State) (s : Step) → brokenOf m ≡ false → numberOf m s ≢ 0 → stepOf m s ≡ answered (numberOf m s) m
-unfolding stepOf ruleOf
-refused-step m s b n = rw (b, ne-eqb (numberOf m s) 0 n)
-
-module _ (m : State) (c : Reached m) where
-  taken : (s : Step) → numberOf m s ≡ 0 → Kind s → Sending m s
-  taken s e (a-send from to own word causes x) =
-      let y = taken-step m s (c .fine) e in
-      let z = ap (λ (a : Outcome). a .answer) y in
-      sends causes (ap (λ (a : Outcome). a .state .made) y ∙ made-counts m s ∙ ap (madeBy m) x) (rw (eq-eqb (stepOf m s .answer) 0 z, x))
-      (ap (λ (a : Outcome). view (a .state) (number (m .made) 0) .causes) y
-      ∙ rw x (ap (λ (w : View). w .causes) (new-sender m c from to own word causes (taken-when m (Send from to own word causes) (rw x at e) .room))))
-  taken s e (another f) =
-      nothing (ap (λ (a : Outcome). a .state .made) (taken-step m s (c .fine) e) ∙ made-counts m s ∙ rw f) (none-sent s (rw f) (eqb (stepOf m s .answer) 0))
-
-  sending : (s : Step) → Sending m s
-  sending s = go (ℕ-discrete (numberOf m s) 0)
-    where
-      go : Dec (numberOf m s ≡ 0) → Sending m s
-      go (yes e) = taken s e (kinds s)
-      go (no n) =
-          let x = refused-step m s (c .fine) n in
-          let y : stepOf m s .answer ≢ 0 = λ z. n (sym (ap (λ (a : Outcome). a .answer) x) ∙ z) in
-          nothing (ap (λ (a : Outcome). a .state .made) x) (rw (ne-eqb (stepOf m s .answer) 0 y))
-
-  -- the causes of an interaction that is there stay
-  causes-stay : (s : Step) (k : ℕ) → k < m .made → view (stepOf m s .state) (number k 0) .causes ≡ view m (number k 0) .causes
-  causes-stay s k h = go (moves m c s (number k 0))
-    where
-      there : 1 ≤ view m (number k 0) .phase
-      there = unbroken m (c .fine) .senderMade k h
-
-      go : Move m s (stepOf m s .state) (number k 0) → view (stepOf m s .state) (number k 0) .causes ≡ view m (number k 0) .causes
-      go (turns-to t) = turn-causes t there
-      go (unmade z) = absurd (omega (arith, z .before, there))
-
-front : (b : Bool) (l rest : List ℕ) → pick b (l ++ rest) rest ≡ pick b l [] ++ rest
-front true l rest = refl
-front false l rest = refl
-
-sent-run : (steps : List Step) (m : State) → Reached m → Sent m steps
-unfolding ran sentCauses
-sent-run [] m c = record { old = λ k h. refl; new = λ k h g. absurd (let z : ⊥ = omega arith in z); grown = omega arith }
-sent-run (s ∷ steps) m c = go (sending m c s) (sent-run steps (stepOf m s .state) (step-reached m c s))
-  where
-    n : State
-    n = stepOf m s .state
-
-    go : Sending m s → Sent (stepOf m s .state) steps → Sent m (s ∷ steps)
-    go (nothing e f) r =
-        record {
-          old = λ k h. r .old k (omega arith) ∙ causes-stay m c s k h;
-          new = λ k h g.
-              let z : k - m .made ≡ k - stepOf m s .state .made = omega arith in
-              rw (front (eqb (stepOf m s .answer) 0) (causesOf s) (sentCauses (stepOf m s .state) steps), f, z) (r .new k (omega arith) g);
-          grown = omega (arith, r .grown);
-        }
-    go (sends causes e f v) r =
-        record {
-          old = λ k h. r .old k (omega arith) ∙ causes-stay m c s k h;
-          new = λ k h g. rw (front (eqb (stepOf m s .answer) 0) (causesOf s) (sentCauses (stepOf m s .state) steps), f) (at k h g (ℕ-discrete k (m .made)));
-          grown = omega (arith, r .grown);
-        }
-      where
-        at : (k : ℕ) → m .made ≤ k → k < ran (stepOf m s .state) steps .made → Dec (k ≡ m .made) → getD (causes ∷ sentCauses (stepOf m s .state) steps) (k - m .made) 0 ≡ view (ran (stepOf m s .state) steps) (number k 0) .causes
-        at k h g (yes x) =
-            let z : k - m .made ≡ 0 = omega arith in
-            rw z (sym (r .old k (omega arith) ∙ ap (λ (i : ℕ). view (stepOf m s .state) (number i 0) .causes) x ∙ v))
-        at k h g (no x) =
-            let z : k - m .made ≡ suc (k - stepOf m s .state .made) = omega arith in
-            rw z (r .new k (omega arith) g)
-
 module _ (u : Setup) (l : Legal u) (steps : List Step) (up : allUp (after u steps) ≡ true) where
   drained : Drains u steps
   drained = the-drain u l steps up
@@ -251,14 +161,10 @@ module _ (u : Setup) (l : Legal u) (steps : List Step) (up : allUp (after u step
   final-closed k h = drained .closes k (omega (arith, drained .made))
 
   -- what the records of the drained machine hold was sent
-  as-sent : (k : ℕ) → k < after u steps .made → view (drainOf (after u steps) .state) (number k 0) .causes ≡ getD (sentCauses (freshOf u) steps) k 0
-  unfolding freshWith
+  as-sent : (k : ℕ) → k < after u steps .made → view (drainOf (after u steps) .state) (number k 0) .causes ≡ sentAs u steps k .causes
   as-sent k h =
-      let z : k - 0 ≡ k = omega arith in
-      let a = sent-run steps (freshOf u) (fresh-reached u l) .new k (omega arith) h in
       ap (λ (m : State). view m (number k 0) .causes) (drained .run ∙ ran-append (freshOf u) steps (stepsOf (after u steps)))
-      ∙ sent-run (stepsOf (after u steps)) (after u steps) (reached u l steps) .old k h
-      ∙ sym (ap (λ (i : ℕ). getD (sentCauses (freshOf u) steps) i 0) (sym z) ∙ a)
+      ∙ sent-run (stepsOf (after u steps)) (after u steps) (reached u l steps) .old k (sentAs u steps k) h (told u l steps k h) .causes
 
   -- so what is reached over the one is reached over the other
   to-sent : (k i : ℕ) → k < after u steps .made → Reach (drainOf (after u steps) .state) k i → SentReach u steps k i

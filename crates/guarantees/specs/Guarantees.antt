@@ -17,17 +17,13 @@ use Rattle.protocol.specs.declared.Status.{Status}
 use Rattle.protocol.specs.Step.{stepOf}
 use Rattle.protocol.specs.Steps.{manyOf}
 use Rattle.protocol.specs.declared.Step.{Step}
-use Rattle.protocol.specs.Kinds.{onSend}
 use Rattle.protocol.specs.Book.{setupRead}
 use Rattle.protocol.specs.Run.{freshOf, runOf, bufferOf, stepsRead}
 use Rattle.protocol.specs.Drain.{allUp, drainOf}
 use Rattle.drains.specs.Drains.{stepsOf}
 use Rattle.protocol.specs.Walk.{walkOf}
 use Rattle.guarantees.specs.Acknowledged.{Legal, after, accepted, acknowledged, AckedBy}
-
--- the causes of a send; no other step has any
-abbrev pub causesOf : Step → List ℕ
-causesOf s = onSend s (λ from to own word causes. causes ∷ []) []
+use Rattle.guarantees.specs.Sent.{sends, sentAs}
 
 -- the keys of a walk, in the order first met
 abbrev pub keysWalked : State → ℕ → List ℕ
@@ -57,6 +53,22 @@ abbrev pub KeptForEver : Type 0
 KeptForEver =
     (u : Setup) → Legal u → (steps : List Step) (step : Step) (k r p : ℕ) → r < 2 → accepted (after u steps) step (number k r) ≡ p ∷ []
     → (further : List Step) → Holds (after u (steps ++ (step ∷ further))) p k r (view (after u steps) (number k r))
+
+-- .. and they are what was sent. As many sends were taken as interactions are made; and in the store that acknowledged a view of the
+-- k-th, after any further steps: the sender's view has its from for asserter, its data and its causes, the receiver's view its to,
+-- the same data and no causes.
+pub record Asserts (m : State) (p v by said caused : ℕ) : Type 0 where
+  pub held : contents m p v .held ≡ true
+  pub asserter : contents m p v .asserter ≡ by
+  pub word : contents m p v .word ≡ said
+  pub causes : contents m p v .causes ≡ caused
+
+pub record AsSent : Type 0 where
+  pub made : (u : Setup) → Legal u → (steps : List Step) → length (sends (freshOf u) steps) ≡ after u steps .made
+  pub sender : (u : Setup) → Legal u → (steps further : List Step) (k p : ℕ) → AckedBy u steps (number k 0) p
+      → Asserts (after u (steps ++ further)) p (number k 0) (sentAs u steps k .from) (sentAs u steps k .word) (sentAs u steps k .causes)
+  pub receiver : (u : Setup) → Legal u → (steps further : List Step) (k p : ℕ) → AckedBy u steps (number k 1) p
+      → Asserts (after u (steps ++ further)) p (number k 1) (sentAs u steps k .to) (sentAs u steps k .word) 0
 
 -- 3. Cause links. Those cause links name, for each cause, the store that acknowledged the same job's receipt of that cause.
 abbrev pub CauseLinks : Type 0
@@ -96,17 +108,10 @@ TheDrain = (u : Setup) → Legal u → (steps : List Step) → allUp (after u st
 -- 7. The walk. After a drain of a machine that a run reached with all stores up, the walk of every key made is answered, and
 -- its keys are exactly those reachable over the causes as they were sent.
 
--- the causes of the sends that were taken, in their order: those of interaction k stand at k
-unfoldable pub sentCauses : State → List Step → List ℕ
-sentCauses m [] = []
-sentCauses m (step ∷ steps) =
-    let rest = sentCauses (stepOf m step .state) steps in
-    pick (eqb (stepOf m step .answer) 0) (causesOf step ++ rest) rest
-
 -- j is a cause that k was sent with; i is reached from k over such causes
 pub record SentCause (u : Setup) (steps : List Step) (k j : ℕ) : Type 0 where
   pub low : j < 16
-  pub set : bit (getD (sentCauses (freshOf u) steps) k 0) j ≡ true
+  pub set : bit (sentAs u steps k .causes) j ≡ true
 
 pub data SentReach (u : Setup) (steps : List Step) : ℕ → ℕ → Type 0 where
   here : {k : ℕ} → SentReach u steps k k
