@@ -12,6 +12,7 @@ pub mod Steps
 pub mod Acks
 pub mod Closing
 pub mod Demand
+pub mod Lookup
 pub mod Sent
 pub mod Drained
 pub mod Walking

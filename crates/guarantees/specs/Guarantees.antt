@@ -91,6 +91,23 @@ ViewLinks =
     → AckedBy u steps (number k r) p → AckedBy u steps (number k (1 - r)) q
     → viewlink (after u (steps ++ further)) p (number k r) ≡ q + 1
 
+-- .. and so a record is found from the other, for ever: once an interaction is closed, the viewlink beside a view, in the store that
+-- acknowledged that view, leads to a store that holds the other view, and the viewlink there leads back; and a cause link in the
+-- store that acknowledged a sender's view leads to a store that holds the receipt of that cause, the one that acknowledged it.
+-- (A viewlink is p + 1 for store p, a cause link p.)
+pub record Leads (m : State) (p k r : ℕ) : Type 0 where
+  pub linked : 1 ≤ viewlink m p (number k r)
+  pub held : contents m (viewlink m p (number k r) - 1) (number k (1 - r)) .held ≡ true
+  pub back : viewlink m (viewlink m p (number k r) - 1) (number k (1 - r)) ≡ p + 1
+
+pub record Lookup : Type 0 where
+  pub other : (u : Setup) → Legal u → (steps further : List Step) (k r p : ℕ) → r < 2 → closedOf (after u steps) k ≡ true
+      → AckedBy u steps (number k r) p → Leads (after u (steps ++ further)) p k r
+  pub cause : (u : Setup) → Legal u → (steps further : List Step) (k p : ℕ) → AckedBy u steps (number k 0) p
+      → (j : ℕ) → j < 16 → bit (contents (after u (steps ++ further)) p (number k 0) .causes) j ≡ true
+      → (contents (after u (steps ++ further)) (getD (causeLinks (after u (steps ++ further)) p k) j 0) (number j 1) .held ≡ true)
+      × AckedBy u (steps ++ further) (number j 1) (getD (causeLinks (after u (steps ++ further)) p k) j 0)
+
 -- 6. The drain. If all stores are up, the drain's machine has every interaction closed; it takes at most 18 steps for each
 -- interaction made; the count that it reports is the number of steps that it took; and its machine is that of the run with its
 -- steps behind it, so 1 to 5 hold of it.
