@@ -15,4 +15,5 @@ pub mod Demand
 pub mod Lookup
 pub mod Sent
 pub mod Drained
+pub mod Recovery
 pub mod Walking

@@ -101,7 +101,7 @@ post m k h (Lose what p i r) = left (go (copies m what p (number i r) - 1) (eqb 
 post m k h (Crash p) = left refl
 post m k h (Restart p) = left refl
 
-taken-step : (m : State) (s : Step) → brokenOf m ≡ false → numberOf m s ≡ 0 → stepOf m s ≡ answered 0 (afterOf m s)
+pub taken-step : (m : State) (s : Step) → brokenOf m ≡ false → numberOf m s ≡ 0 → stepOf m s ≡ answered 0 (afterOf m s)
 unfolding stepOf ruleOf
 taken-step m s b e = rw (b, eq-eqb (numberOf m s) 0 e)
 

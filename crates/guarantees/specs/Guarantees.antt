@@ -1,12 +1,12 @@
 -- Demand 3, sentence by sentence. The proofs stand in proofs/.
-use Prim.Native.Nat.{ℕ, _+_, _-_, _*_, _≤_, _<_}
+use Prim.Native.Nat.{ℕ, zero, suc, _+_, _-_, _*_, _≤_, _<_}
 use mathlib.Core.Path.{_≡_}
 use mathlib.Core.Bool.{true}
 use mathlib.Core.List.{List, [], _∷_, _++_}
 use lib.Dec.{eqb}
-use lib.ListN.{length, getD, take}
+use lib.ListN.{length, getD, take, replicate}
 use Rattle.protocol.specs.Words.{pick, bit, times}
-use Rattle.protocol.specs.Slots.{number, statusNumber, view, contents, causeLinks, viewlink}
+use Rattle.protocol.specs.Slots.{number, statusNumber, isUp, view, contents, causeLinks, viewlink}
 use Rattle.protocol.specs.Setup.{emptyMachine, setupOf}
 use Rattle.protocol.specs.Broken.{brokenOf}
 use Rattle.protocol.specs.Closed.{closedOf}
@@ -18,7 +18,8 @@ use Rattle.protocol.specs.Step.{stepOf}
 use Rattle.protocol.specs.Steps.{manyOf}
 use Rattle.protocol.specs.declared.Step.{Step}
 use Rattle.protocol.specs.Book.{setupRead}
-use Rattle.protocol.specs.Run.{freshOf, runOf, bufferOf, stepsRead}
+use Rattle.protocol.specs.declared.Step.the-variants.{Restart}
+use Rattle.protocol.specs.Run.{answers, freshOf, runOf, bufferOf, stepsRead}
 use Rattle.protocol.specs.Drain.{allUp, drainOf}
 use Rattle.drains.specs.Drains.{stepsOf}
 use Rattle.protocol.specs.Walk.{walkOf}
@@ -121,6 +122,25 @@ pub record Drains (u : Setup) (steps : List Step) : Type 0 where
 
 abbrev pub TheDrain : Type 0
 TheDrain = (u : Setup) → Legal u → (steps : List Step) → allUp (after u steps) ≡ true → Drains u steps
+
+-- .. and whatever is down, a machine that a run reached recovers: a restart is taken for each store that is down, then all stores
+-- are up and the drain closes every interaction, in at most 8 steps and 18 for each interaction made.
+unfoldable pub restartsBelow : ℕ → State → List Step
+restartsBelow zero m = []
+restartsBelow (suc p) m = restartsBelow p m ++ pick (isUp m p) [] (Restart p ∷ [])
+
+abbrev pub restarts : State → List Step
+restarts m = restartsBelow (m .stores) m
+
+pub record Recovers (u : Setup) (steps : List Step) : Type 0 where
+  pub taken : answers (after u steps) (restarts (after u steps)) ≡ replicate (length (restarts (after u steps))) 0
+  pub up : allUp (after u (steps ++ restarts (after u steps))) ≡ true
+  pub made : after u (steps ++ restarts (after u steps)) .made ≡ after u steps .made
+  pub closes : (k : ℕ) → k < after u steps .made → closedOf (drainOf (after u (steps ++ restarts (after u steps))) .state) k ≡ true
+  pub bound : length (restarts (after u steps)) + drainOf (after u (steps ++ restarts (after u steps))) .count ≤ 8 + after u steps .made * 18
+
+abbrev pub Recovery : Type 0
+Recovery = (u : Setup) → Legal u → (steps : List Step) → Recovers u steps
 
 -- 7. The walk. After a drain of a machine that a run reached with all stores up, the walk of every key made is answered, and
 -- its keys are exactly those reachable over the causes as they were sent.
