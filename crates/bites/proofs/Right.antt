@@ -3,14 +3,11 @@ use Prim.Native.Nat.{ℕ, zero, suc, _*_}
 use mathlib.Core.Path.{_≡_, refl, sym, ap, _∙_, subst}
 use mathlib.Core.Bool.{Bool, true, false, _&&_, not}
 use mathlib.Core.List.{List, [], _∷_, _++_}
-use Rattle.protocol.specs.Words.{pick}
-use Rattle.protocol.specs.Setup.{answered}
 use Rattle.protocol.specs.Broken.{brokenOf}
 use Rattle.protocol.specs.declared.State.{State}
 use Rattle.protocol.specs.declared.Setup.{Setup}
 use Rattle.protocol.specs.Outcome.{Outcome}
 use Rattle.unbroken.proofs.Laws.{fresh-unbroken}
-use Rattle.protocol.specs.Rule.{decided}
 use Rattle.protocol.specs.Step.{ruleOf, stepOf}
 use Rattle.protocol.specs.declared.Step.{Step}
 use Rattle.protocol.specs.Run.{ran, freshOf}

@@ -29,7 +29,7 @@ use Rattle.guarantees.proofs.Rules.{Homes}
 use Rattle.guarantees.proofs.Heads.{view-made, stores8}
 use Rattle.guarantees.proofs.Reached.{Reached, Causes}
 use Rattle.guarantees.proofs.Steps.{Move, turns-to, unmade, step-reached, moves}
-use Rattle.guarantees.proofs.Acks.{Ack, past, now, yet, ack, accepting, run-reached, stays-past, comes-to}
+use Rattle.guarantees.proofs.Acks.{Ack, past, now, yet, ack, run-reached, stays-past, comes-to}
 use Rattle.guarantees.proofs.Closing.{Rests, closed-of, accurate}
 
 -- a fresh machine has nothing that could be wrong

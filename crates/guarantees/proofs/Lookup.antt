@@ -1,22 +1,20 @@
 -- In a closed interaction each link leads to a store that holds what it is for: by the guarantees 3 and 5, and because the store
 -- that acknowledged a view holds it. Assumes nothing.
-use mathlib.Core.Path.{_≡_, sym, ap, _∙_, subst}
+use mathlib.Core.Path.{_≡_, sym, _∙_, subst}
 use mathlib.Core.Bool.{true}
-use mathlib.Core.List.{List, _++_}
+use mathlib.Core.List.{_++_}
 use Prim.Native.Nat.{ℕ, _+_, _-_, _≤_, _<_}
 use native.Mathlib.Omega.{arith}
 use lib.ListN.{getD}
 use Rattle.protocol.specs.Words.{bit}
-use Rattle.protocol.specs.Slots.{home, queue, standing, number, view, contents, causeLinks, viewlink}
-use Rattle.protocol.specs.declared.Setup.{Setup}
+use Rattle.protocol.specs.Slots.{home, queue, standing, number, view, causeLinks, viewlink}
 use Rattle.protocol.specs.declared.State.{State}
-use Rattle.protocol.specs.declared.Step.{Step}
 use Rattle.unbroken.proofs.Laws.{unbroken}
-use Rattle.guarantees.specs.Acknowledged.{Legal, after, AckedBy}
-use Rattle.guarantees.specs.Guarantees.{Leads, Lookup}
+use Rattle.guarantees.specs.Acknowledged.{after, AckedBy}
+use Rattle.guarantees.specs.Guarantees.{Lookup}
 use Rattle.guarantees.proofs.Causes.{Cause}
 use Rattle.guarantees.proofs.Reached.{Reached, Causes}
-use Rattle.guarantees.proofs.Demand.{There, there, reached, soon, acked-on, one-acknowledgement, view-links}
+use Rattle.guarantees.proofs.Demand.{there, reached, soon, acked-on, one-acknowledgement, view-links}
 
 cause-at : (m : State) → Reached m → (k j : ℕ) → k < m .made → j < 16 → bit (view m (number k 0) .causes) j ≡ true
     → Cause (home m (view m (number k 0) .actor)) (standing (queue m (view m (number k 0) .actor))) (number j 1) (number k 0) j (view m (number k 0)) (view m (number j 1))

@@ -2,7 +2,7 @@
 -- Kept by every step, and true of a fresh machine. Assumes nothing.
 use mathlib.Core.Path.{_≡_, refl, sym, ap, _∙_, subst}
 use mathlib.Core.Logic.{_≢_}
-use mathlib.Core.Bool.{Bool, true, false, not}
+use mathlib.Core.Bool.{Bool, true, false}
 use mathlib.Core.List.{List, [], _∷_, _++_}
 use Prim.Native.Nat.{ℕ, _+_, _-_, _≤_, _<_}
 use native.Mathlib.Omega.{arith}
@@ -10,7 +10,7 @@ use native.Mathlib.Decide.{decLt}
 use lib.Dec.{eqb}
 use lib.ListN.{getD, set, length-set}
 use lib.Seq.{getD-set-same, getD-set-other}
-use Rattle.protocol.specs.Words.{pick, bit, one, times}
+use Rattle.protocol.specs.Words.{pick, bit, times}
 use Rattle.protocol.specs.Slots.{number, queue, standing, view, home, noView, noQueue}
 use Rattle.protocol.specs.Writes.{withRecordCopies, withAckCopies, withUpdateCopies, withUackCopies}
 use Rattle.protocol.specs.Broken.{brokenOf}

@@ -1,36 +1,35 @@
 -- The guarantee 6 where stores are down: each restart is taken and leaves the other stores, so all are up. Assumes nothing.
-use mathlib.Core.Path.{_≡_, refl, sym, ap, _∙_, subst}
+use mathlib.Core.Path.{_≡_, refl, ap, _∙_}
 use mathlib.Core.Bool.{Bool, true, false, _||_}
 use mathlib.Core.List.{List, [], _∷_, _++_, append-nil}
-use Prim.Native.Nat.{ℕ, zero, suc, _+_, _*_, _≤_, _<_}
+use Prim.Native.Nat.{ℕ, zero, suc, _+_, _≤_, _<_}
 use native.Mathlib.Numerals.{add-one}
 use native.Mathlib.Omega.{arith}
 use native.Mathlib.Decide.{ℕ-discrete, decLt}
-use borrow.Author.Tests.{lt-leb, le-leb}
-use lib.Dec.{leb, eqb}
+use borrow.Author.Tests.{le-leb}
+use lib.Dec.{leb}
 use lib.ListN.{length, replicate, length-append}
 use lib.Seq.{getD-set-same, getD-set-other}
 use Rattle.protocol.specs.Words.{pick}
 use Rattle.protocol.specs.Slots.{isUp}
 use Rattle.protocol.specs.declared.State.{State}
-use Rattle.protocol.specs.declared.Setup.{Setup}
 use Rattle.protocol.specs.Outcome.{Outcome}
 use Rattle.unbroken.proofs.Laws.{unbroken}
 use Rattle.unbroken.proofs.Laws.Every.{all-each}
-use Rattle.protocol.specs.Restart.{restartNo, restarted}
-use Rattle.protocol.specs.Step.{numberOf, afterOf, stepOf}
+use Rattle.protocol.specs.Restart.{restarted}
+use Rattle.protocol.specs.Step.{afterOf, stepOf}
 use Rattle.protocol.specs.declared.Step.{Step}
 use Rattle.protocol.specs.declared.Step.the-variants.{Restart}
 use Rattle.protocol.specs.Run.{ran, answers, freshOf}
-use Rattle.protocol.specs.Drain.{upIn, allUp, drainOf}
+use Rattle.protocol.specs.Drain.{upIn, allUp}
+use Rattle.keeps.proofs.Laws.{taken-gives}
 use Rattle.reads.proofs.Some.{ran-append, answers-append}
-use Rattle.guarantees.specs.Acknowledged.{Legal, after}
+use Rattle.guarantees.specs.Acknowledged.{after}
 use Rattle.guarantees.specs.Guarantees.{restartsBelow, restarts, Recovery}
 use Rattle.guarantees.proofs.Heads.{stores8}
 use Rattle.guarantees.proofs.Reached.{Reached}
 use Rattle.guarantees.proofs.Acks.{run-reached}
 use Rattle.guarantees.proofs.Demand.{reached}
-use Rattle.guarantees.proofs.Sent.{taken-step}
 use Rattle.guarantees.proofs.Drained.{the-drain}
 
 replicate-more : (n z : ℕ) → replicate n z ++ (z ∷ []) ≡ replicate (suc n) z
@@ -48,7 +47,7 @@ record Restarted (m : State) (n : ℕ) (ss : List Step) : Type 0 where
 
 module _ (m : State) (c : Reached m) where
   restart : (n : ℕ) (ss : List Step) → n < m .stores → Restarted m n ss → (b : Bool) → isUp m n ≡ b → Restarted m (suc n) (ss ++ pick b [] (Restart n ∷ []))
-  unfolding restartNo restarted ran answers
+  unfolding restarted ran answers
   restart n ss h r true e =
       rw (append-nil ss)
       (record {
@@ -65,7 +64,7 @@ module _ (m : State) (c : Reached m) where
       below p g (no x) = r .up p (omega arith)
   restart n ss h r false e =
       let d = run-reached m c ss in
-      let x : stepOf (ran m ss) (Restart n) ≡ record { state = afterOf (ran m ss) (Restart n); answer = 0 } = taken-step (ran m ss) (Restart n) (d .fine) number in
+      let x : stepOf (ran m ss) (Restart n) ≡ record { state = afterOf (ran m ss) (Restart n); answer = 0 } = taken-gives (ran m ss) (Restart n) (d .fine) (record { storeIn = omega (arith, r .stores); down = r .rest n (omega arith) ∙ e }) in
       let s = ap (λ (a : Outcome). a .state) x in
       let whole = ran-append m ss (Restart n ∷ []) ∙ s in
       record {
@@ -77,9 +76,6 @@ module _ (m : State) (c : Reached m) where
         zeros = answers-append m ss (Restart n ∷ []) ∙ rw (r .zeros, ap (λ (a : Outcome). a .answer) x, length-append ss (Restart n ∷ []), add-one (length ss)) (replicate-more (length ss) 0);
       }
     where
-      number : numberOf (ran m ss) (Restart n) ≡ 0
-      number = rw (lt-leb (ran m ss .stores) n (omega (arith, r .stores)), r .rest n (omega arith) ∙ e)
-
       below : (p : ℕ) → p < suc n → Dec (p ≡ n) → isUp (restarted (ran m ss) n) p ≡ true
       below p g (yes y) =
           let d = run-reached m c ss in

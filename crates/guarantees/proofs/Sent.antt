@@ -9,13 +9,12 @@ use native.Mathlib.Omega.{arith}
 use native.Mathlib.Decide.{ℕ-discrete}
 use borrow.Author.Tests.{eq-eqb, ne-eqb}
 use lib.Dec.{eqb}
-use lib.ListN.{length, getD, set}
+use lib.ListN.{length, getD}
 use lib.Seq.{getD-set-same, getD-set-other}
 use Rattle.protocol.specs.Words.{pick}
 use Rattle.protocol.specs.Slots.{number, view, message, noView, noMessage}
 use Rattle.protocol.specs.Writes.{withRecordCopies, withAckCopies, withUpdateCopies, withUackCopies}
-use Rattle.protocol.specs.Setup.{answered, freshWith}
-use Rattle.protocol.specs.Broken.{brokenOf}
+use Rattle.protocol.specs.Setup.{freshWith}
 use Rattle.unbroken.specs.Unbroken.{Unbroken}
 use Rattle.protocol.specs.declared.State.{State}
 use Rattle.protocol.specs.declared.View.{View}
@@ -39,14 +38,14 @@ use Rattle.protocol.specs.Expire.{expired}
 use Rattle.protocol.specs.Lose.{lost, copies}
 use Rattle.protocol.specs.Crash.{crashed}
 use Rattle.protocol.specs.Restart.{restarted}
-use Rattle.protocol.specs.Step.{numberOf, afterOf, ruleOf, stepOf}
+use Rattle.protocol.specs.Step.{numberOf, afterOf, stepOf}
 use Rattle.protocol.specs.declared.Step.{Step}
 use Rattle.protocol.specs.declared.Step.the-variants.{Send, Receive, PreCheck, SendRecord, Timeout, TakeRecord, TakeAck, PostCheck, TakeRepair, SendUpdate, TakeUpdate, TakeUack, Expire, Lose, Crash, Restart}
 use Rattle.protocol.specs.Run.{ran, freshOf}
 use Rattle.keeps.specs.Laws.{madeBy}
 use Rattle.keeps.specs.Onward.{ViewOn}
-use Rattle.keeps.proofs.Conditions.{taken-when}
-use Rattle.keeps.proofs.Laws.{made-counts}
+use Rattle.keeps.proofs.Conditions.{taken-when, when-taken}
+use Rattle.keeps.proofs.Laws.{taken-gives, refused-gives, made-counts}
 use Rattle.keeps.proofs.Onward.{step-onward}
 use Rattle.guarantees.specs.Acknowledged.{Legal, after}
 use Rattle.guarantees.specs.Sent.{Said, nothingSaid, saidBy, sends, sentAs}
@@ -100,14 +99,6 @@ post m k h (Lose what p i r) = left (go (copies m what p (number i r) - 1) (eqb 
     go n false false false = refl
 post m k h (Crash p) = left refl
 post m k h (Restart p) = left refl
-
-pub taken-step : (m : State) (s : Step) → brokenOf m ≡ false → numberOf m s ≡ 0 → stepOf m s ≡ answered 0 (afterOf m s)
-unfolding stepOf ruleOf
-taken-step m s b e = rw (b, eq-eqb (numberOf m s) 0 e)
-
-refused-step : (m : State) (s : Step) → brokenOf m ≡ false → numberOf m s ≢ 0 → stepOf m s ≡ answered (numberOf m s) m
-unfolding stepOf ruleOf
-refused-step m s b n = rw (b, ne-eqb (numberOf m s) 0 n)
 
 module _ (m : State) (c : Reached m) where
   u : Unbroken m
@@ -192,13 +183,13 @@ module _ (m : State) (c : Reached m) where
 
   taken : (s : Step) → numberOf m s ≡ 0 → Kind s → Sending m s
   taken s e (a-send from to own word causes x) =
-      let y = taken-step m s (c .fine) e in
+      let y = taken-gives m s (c .fine) (taken-when m s e) in
       let z = ap (λ (a : Outcome). a .answer) y in
       let n : Said = record { from = from; to = to; own = own; word = word; causes = causes } in
       says n (ap (λ (a : Outcome). a .state .made) y ∙ made-counts m s ∙ ap (madeBy m) x) (rw (eq-eqb (stepOf m s .answer) 0 z, x))
       (subst (λ (a : Outcome). Told (a .state) (m .made) n) (sym y) (subst (λ (i : Step). Told (afterOf m i) (m .made) n) (sym x) (begins from to own word causes (rw x at e))))
   taken s e (another f) =
-      nothing (ap (λ (a : Outcome). a .state .made) (taken-step m s (c .fine) e) ∙ made-counts m s ∙ rw f) (none-said s (rw f) (eqb (stepOf m s .answer) 0))
+      nothing (ap (λ (a : Outcome). a .state .made) (taken-gives m s (c .fine) (taken-when m s e)) ∙ made-counts m s ∙ rw f) (none-said s (rw f) (eqb (stepOf m s .answer) 0))
 
   sending : (s : Step) → Sending m s
   sending s = go (ℕ-discrete (numberOf m s) 0)
@@ -206,7 +197,7 @@ module _ (m : State) (c : Reached m) where
       go : Dec (numberOf m s ≡ 0) → Sending m s
       go (yes e) = taken s e (kinds s)
       go (no n) =
-          let x = refused-step m s (c .fine) n in
+          let x = refused-gives m s (c .fine) (λ t. n (when-taken m s t)) .1 in
           let y : stepOf m s .answer ≢ 0 = λ z. n (sym (ap (λ (a : Outcome). a .answer) x) ∙ z) in
           nothing (ap (λ (a : Outcome). a .state .made) x) (rw (ne-eqb (stepOf m s .answer) 0 y))
 

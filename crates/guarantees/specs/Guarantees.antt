@@ -1,9 +1,9 @@
 -- Demand 3, sentence by sentence. The proofs stand in proofs/.
 use Prim.Native.Nat.{ℕ, zero, suc, _+_, _-_, _*_, _≤_, _<_}
 use mathlib.Core.Path.{_≡_}
+use mathlib.Core.Logic.{_≢_}
 use mathlib.Core.Bool.{true}
 use mathlib.Core.List.{List, [], _∷_, _++_}
-use lib.Dec.{eqb}
 use lib.ListN.{length, getD, take, replicate}
 use Rattle.protocol.specs.Words.{pick, bit, times}
 use Rattle.protocol.specs.Slots.{number, statusNumber, isUp, view, contents, causeLinks, viewlink}
@@ -161,6 +161,18 @@ pub record Walks (u : Setup) (steps : List Step) (k : ℕ) : Type 0 where
 
 abbrev pub TheWalk : Type 0
 TheWalk = (u : Setup) → Legal u → (steps : List Step) → allUp (after u steps) ≡ true → (k : ℕ) → k < after u steps .made → Walks u steps k
+
+-- .. and whatever is open or down, in every machine that a run reached: the walk of a key made is answered exactly if every key
+-- reachable over the causes as they were sent is closed, else it is 13; and its keys are then exactly those.
+pub record Answers (u : Setup) (steps : List Step) (k : ℕ) : Type 0 where
+  pub answered : ((i : ℕ) → SentReach u steps k i → closedOf (after u steps) i ≡ true) → walkOf (after u steps) k .answer ≡ 0
+  pub closed : walkOf (after u steps) k .answer ≡ 0 → (i : ℕ) → SentReach u steps k i → closedOf (after u steps) i ≡ true
+  pub refused : walkOf (after u steps) k .answer ≢ 0 → walkOf (after u steps) k .answer ≡ 13
+  pub once : walkOf (after u steps) k .answer ≡ 0 → (i : ℕ) → SentReach u steps k i → times i (keysWalked (after u steps) k) ≡ 1
+  pub only : walkOf (after u steps) k .answer ≡ 0 → (i : ℕ) → 1 ≤ times i (keysWalked (after u steps) k) → SentReach u steps k i
+
+abbrev pub EveryWalk : Type 0
+EveryWalk = (u : Setup) → Legal u → (steps : List Step) (k : ℕ) → k < after u steps .made → Answers u steps k
 
 -- 8. Books. The machine that `run` gives for a book that is not refused is the one after a run from a legal setup, so 1 to 7 hold of it.
 pub record BookRun (book : List ℕ) (room : ℕ) : Type 0 where
