@@ -15,14 +15,14 @@ use Rattle.protocol.specs.declared.View.{View}
 use Rattle.protocol.specs.declared.Setup.{Setup}
 use Rattle.protocol.specs.declared.Status.{Status}
 use Rattle.protocol.specs.Step.{stepOf}
-use Rattle.protocol.specs.Steps.{manyOf}
 use Rattle.protocol.specs.declared.Step.{Step}
 use Rattle.protocol.specs.Book.{setupRead}
 use Rattle.protocol.specs.declared.Step.the-variants.{Restart}
-use Rattle.protocol.specs.Run.{answers, freshOf, runOf, bufferOf, stepsRead}
+use Rattle.protocol.specs.Run.{ran, answers, legalSetup, freshOf, runOf, bufferOf, stepsRead}
 use Rattle.protocol.specs.Drain.{allUp, drainOf}
 use Rattle.drains.specs.Drains.{stepsOf}
 use Rattle.protocol.specs.Walk.{walkOf}
+use Rattle.protocol.specs.Listing.{refusedLine, listingOf}
 use Rattle.guarantees.specs.Acknowledged.{Legal, after, accepted, acknowledged, AckedBy}
 use Rattle.guarantees.specs.Sent.{sends, sentAs}
 
@@ -182,20 +182,35 @@ pub record BookRun (book : List ℕ) (room : ℕ) : Type 0 where
 abbrev pub Books : Type 0
 Books = (book : List ℕ) (room : ℕ) → runOf book room .answer ≡ 0 → BookRun book room
 
--- 9. Every call answers: each public call is a proved function with no `requires`, so it ends for every input; and its promise,
--- `result ≡ definition of the inputs`, leaves exactly one result. In order: State::broken, State::empty, Setup::setup,
--- status_number, Recorder::step (and the joint step_unbroken), the joint steps_unbroken, run with its buffer, drain, walk.
+-- 9. Every call answers: each public call is a proved function, so it ends for every input; and its promise, `result ≡ definition of
+-- the inputs`, leaves exactly one result. That holds of any definition, and shows nothing by itself: what bites is that the contracts
+-- have this shape, which the gate looks at. All public calls, with the crate that has them:
+--   protocol: status_number
+--   broken: legal, fresh, empty, is_broken
+--   rules: look_back, Slots::rule (the two that `machine` is made of; the second has no equation, docs/ say why)
+--   machine: Machine::empty, setup, broken, step; its joints step_unbroken and steps_unbroken, for machines that are not broken
+--   drain: drain. walk: walk. runs: run, with its buffer
+--   listing: refused, listing
+--   tautlichen: tautlichen_run, _list, _drain, _walk, whose lent values are told one by one in its specs/Only.antt
+--   bench: bench_run, bench_broken, bench_walk, bench_drain, bench_step, bench_step_unbroken
 abbrev pub Determined : {A : Type 0} → A → Type 0
 Determined {A} d = (x y : A) → x ≡ d → y ≡ d → x ≡ y
 
-pub record EveryCall : Type 0 where
-  pub broken : (m : State) → Determined (brokenOf m)
-  pub empty : Determined emptyMachine
-  pub setup : (u : Setup) → Determined (setupOf u)
+pub record EveryCall : Type 1 where
   pub status : (s : Status) → Determined (statusNumber s)
+  pub legal : (u : Setup) → Determined (legalSetup u)
+  pub fresh : (u : Setup) → Determined (freshOf u)
+  pub empty : Determined emptyMachine
+  pub broken : (m : State) → Determined (brokenOf m)
+  pub setup : (u : Setup) → Determined (setupOf u)
   pub step : (m : State) (s : Step) → Determined (stepOf m s)
-  pub steps : (m : State) (steps : List Step) (n : ℕ) → Determined (manyOf m steps n)
-  pub run : (book : List ℕ) (room : ℕ) → Determined (runOf book room)
-  pub buffer : (book buffer : List ℕ) → Determined (bufferOf book buffer)
+  pub steps : (m : State) (steps : List Step) → Determined (ran m steps)
+  pub answers : (m : State) (steps : List Step) → Determined (answers m steps)
   pub drain : (m : State) → Determined (drainOf m)
   pub walk : (m : State) (k : ℕ) → Determined (walkOf m k)
+  pub run : (book : List ℕ) (room : ℕ) → Determined (runOf book room)
+  pub buffer : (book buffer : List ℕ) → Determined (bufferOf book buffer)
+  pub refused : (n : ℕ) → Determined (refusedLine n)
+  pub listing : (m : State) (steps taken : ℕ) → Determined (listingOf m steps taken)
+  -- whatever is defined above this crate: look_back, tautlichen, bench
+  pub any : {A : Type 0} (d : A) → Determined d
