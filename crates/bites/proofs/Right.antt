@@ -61,7 +61,7 @@ unfoldable pub courseRuled : ℕ → State → Course
 courseRuled zero m = stays m
 courseRuled (suc n) m = onTurn (turnOf m) (stays m) (λ step. behind step (courseRuled n (ruled right m step)))
 
-course-ruled : (n : ℕ) (m : State) → brokenOf m ≡ false → course n m ≡ courseRuled n m
+pub course-ruled : (n : ℕ) (m : State) → brokenOf m ≡ false → course n m ≡ courseRuled n m
 unfolding course courseRuled
 course-ruled zero m e = refl
 course-ruled (suc n) m e = go (turnOf m) (λ s. course-ruled n (ruled right m s) (unbroken-ruled m s e))

@@ -1,9 +1,9 @@
--- Runs by document 01's rules with some of them replaced, and guarantees 3 and 5 said of such runs, word for word.
-use Prim.Native.Nat.{ℕ, _+_, _-_, _<_}
+-- Runs by document 01's rules with some of them replaced, and guarantees 1 to 5 said of such runs, word for word.
+use Prim.Native.Nat.{ℕ, _+_, _-_, _≤_, _<_}
 use mathlib.Core.Path.{_≡_}
 use mathlib.Core.Bool.{true}
 use mathlib.Core.List.{List, [], _∷_, _++_}
-use lib.ListN.{getD}
+use lib.ListN.{length, getD}
 use Rattle.protocol.specs.Words.{pick, bit}
 use Rattle.protocol.specs.Slots.{number, view, viewlink}
 use Rattle.protocol.specs.Setup.{answered}
@@ -17,6 +17,7 @@ use Rattle.protocol.specs.Step.{numberOf, afterOf}
 use Rattle.protocol.specs.declared.Step.{Step}
 use Rattle.protocol.specs.Run.{freshOf}
 use Rattle.guarantees.specs.Acknowledged.{Legal, acceptedInto}
+use Rattle.guarantees.specs.Guarantees.{Holds}
 
 -- the machine that a taken step gives; what refuses a step stays as document 01 says
 abbrev pub Rules : Type 0
@@ -50,6 +51,16 @@ acknowledgedBy rules m (step ∷ steps) v = acceptedBy rules m step v ++ acknowl
 abbrev pub AckedIn : Rules → Setup → List Step → ℕ → ℕ → Type 0
 AckedIn rules u steps v p = acknowledgedBy rules (freshOf u) steps v ≡ p ∷ []
 
+-- 1. One acknowledgement (at most one), of runs by these rules.
+abbrev pub AtMostOneBy : Rules → Type 0
+AtMostOneBy rules = (u : Setup) → Legal u → (steps : List Step) (v : ℕ) → length (acknowledgedBy rules (freshOf u) steps v) ≤ 1
+
+-- 2. Kept for ever, of runs by these rules.
+abbrev pub KeptForEverBy : Rules → Type 0
+KeptForEverBy rules =
+    (u : Setup) → Legal u → (steps : List Step) (step : Step) (k r p : ℕ) → r < 2 → acceptedBy rules (runBy rules u steps) step (number k r) ≡ p ∷ []
+    → (further : List Step) → Holds (runBy rules u (steps ++ (step ∷ further))) p k r (view (runBy rules u steps) (number k r))
+
 -- 3. Cause links, of runs by these rules.
 abbrev pub CauseLinksBy : Rules → Type 0
 CauseLinksBy rules =
@@ -57,6 +68,12 @@ CauseLinksBy rules =
     → (j : ℕ) → j < 16 → bit (view (runBy rules u steps) (number k 0) .causes) j ≡ true
     → (view (runBy rules u steps) (number j 1) .actor ≡ view (runBy rules u steps) (number k 0) .actor)
     × AckedIn rules u steps (number j 1) (getD (view (runBy rules u steps) (number k 0) .links) j 0)
+
+-- 4. Closed stays closed, of runs by these rules.
+abbrev pub StaysClosedBy : Rules → Type 0
+StaysClosedBy rules =
+    (u : Setup) → Legal u → (steps further : List Step) (k : ℕ) → closedOf (runBy rules u steps) k ≡ true
+    → closedOf (runBy rules u (steps ++ further)) k ≡ true
 
 -- 5. View links, of runs by these rules.
 abbrev pub ViewLinksBy : Rules → Type 0

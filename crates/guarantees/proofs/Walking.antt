@@ -23,10 +23,10 @@ use Rattle.unbroken.proofs.Laws.{unbroken}
 use Rattle.protocol.specs.declared.Step.{Step}
 use Rattle.protocol.specs.Run.{freshOf}
 use Rattle.guarantees.specs.Acknowledged.{Legal, after}
-use Rattle.guarantees.specs.Guarantees.{keysWalked, SentCause, SentReach, TheWalk, EveryWalk}
+use Rattle.guarantees.specs.Guarantees.{SentCause, SentReach, TheWalk, EveryWalk}
 use Rattle.guarantees.specs.Sent.{sentAs}
 use Rattle.drains.specs.Drains.{stepsOf}
-use Rattle.reaches.specs.Reaches.{Reach, Cause as Cause′}
+use Rattle.reaches.specs.Reaches.{Reach, Cause as Cause′, keysOf}
 use Rattle.reaches.proofs.Keys.{IsMet, none-met, sound-unmet}
 use Rattle.reaches.proofs.Visited.{visited}
 use Rattle.reaches.proofs.Laws.{answered-reaches}
@@ -182,7 +182,7 @@ module _ (m : State) where
   none-closed i h = absurd-eq (sym h ∙ none-met i)
 
   -- a key that an answered walk lists is closed
-  walked-closed : Reached m → (k i : ℕ) → k < m .made → walkOf m k .answer ≡ 0 → times i (keysWalked m k) ≡ 1 → closedOf m i ≡ true
+  walked-closed : Reached m → (k i : ℕ) → k < m .made → walkOf m k .answer ≡ 0 → times i (keysOf (walkOf m k)) ≡ 1 → closedOf m i ≡ true
   unfolding MetClosed walkOf walkedFrom
   walked-closed c k i hk e t = visit-closed 16 k (view m (number k 0) .store + 1) unmet none-closed i (met (walkedFrom m k .fine) refl)
     where
@@ -282,6 +282,6 @@ the-walk u l steps up k h =
     let a = w .answered (λ i r. ap (λ (m : State). closedOf m i) (sym (d .run)) ∙ d .closes i (reach-made u l steps k i h (of-sent u l steps k i h (reach-off u l steps more k i h r)))) in
     record {
       answered = subst (λ (m : State). walkOf m k .answer ≡ 0) (sym (d .run)) a;
-      once = λ i r. subst (λ (m : State). times i (keysWalked m k) ≡ 1) (sym (d .run)) (w .once a i (reach-on u l steps more k i h r));
-      only = λ i t. reach-off u l steps more k i h (w .only a i (subst (λ (m : State). 1 ≤ times i (keysWalked m k)) (d .run) t));
+      once = λ i r. subst (λ (m : State). times i (keysOf (walkOf m k)) ≡ 1) (sym (d .run)) (w .once a i (reach-on u l steps more k i h r));
+      only = λ i t. reach-off u l steps more k i h (w .only a i (subst (λ (m : State). 1 ≤ times i (keysOf (walkOf m k))) (d .run) t));
     }

@@ -1,10 +1,11 @@
--- Demand 3, sentence by sentence. The proofs stand in proofs/.
+-- Demand 3, sentence by sentence. The proofs stand in proofs/. What is said of the drain and of the walk is said of any, so that it can
+-- be said of a wrong one too (crate bites); the demand is about document 01's, `drainOf` and `walkOf`.
 use Prim.Native.Nat.{ℕ, zero, suc, _+_, _-_, _*_, _≤_, _<_}
 use mathlib.Core.Path.{_≡_}
 use mathlib.Core.Logic.{_≢_}
 use mathlib.Core.Bool.{true}
 use mathlib.Core.List.{List, [], _∷_, _++_}
-use lib.ListN.{length, getD, take, replicate}
+use lib.ListN.{length, getD, replicate}
 use Rattle.protocol.specs.Words.{pick, bit, times}
 use Rattle.protocol.specs.Slots.{number, statusNumber, isUp, view, contents, causeLinks, viewlink}
 use Rattle.protocol.specs.Setup.{emptyMachine, setupOf}
@@ -14,6 +15,8 @@ use Rattle.protocol.specs.declared.State.{State}
 use Rattle.protocol.specs.declared.View.{View}
 use Rattle.protocol.specs.declared.Setup.{Setup}
 use Rattle.protocol.specs.declared.Status.{Status}
+use Rattle.protocol.specs.declared.Drained.{Drained}
+use Rattle.protocol.specs.declared.Walked.{Walked}
 use Rattle.protocol.specs.Step.{stepOf}
 use Rattle.protocol.specs.declared.Step.{Step}
 use Rattle.protocol.specs.Book.{setupRead}
@@ -22,13 +25,10 @@ use Rattle.protocol.specs.Run.{ran, answers, legalSetup, freshOf, runOf, buffer
 use Rattle.protocol.specs.Drain.{allUp, drainOf}
 use Rattle.drains.specs.Drains.{stepsOf}
 use Rattle.protocol.specs.Walk.{walkOf}
+use Rattle.reaches.specs.Reaches.{keysOf}
 use Rattle.protocol.specs.Listing.{refusedLine, listingOf}
 use Rattle.guarantees.specs.Acknowledged.{Legal, after, accepted, acknowledged, AckedBy}
 use Rattle.guarantees.specs.Sent.{sends, sentAs}
-
--- the keys of a walk, in the order first met
-abbrev pub keysWalked : State → ℕ → List ℕ
-keysWalked m k = take (walkOf m k .count) (walkOf m k .keys)
 
 -- 1. One acknowledgement. In a run a view has at most one accepting step; a view in phase 4 or 5 has exactly one.
 pub record OneAcknowledgement : Type 0 where
@@ -112,16 +112,19 @@ pub record Lookup : Type 0 where
 -- 6. The drain. If all stores are up, the drain's machine has every interaction closed; it takes at most 18 steps for each
 -- interaction made; the count that it reports is the number of steps that it took; and its machine is that of the run with its
 -- steps behind it, so 1 to 5 hold of it.
-pub record Drains (u : Setup) (steps : List Step) : Type 0 where
-  pub answer : drainOf (after u steps) .answer ≡ 0
-  pub closes : (k : ℕ) → k < after u steps .made → closedOf (drainOf (after u steps) .state) k ≡ true
-  pub bound : drainOf (after u steps) .count ≤ after u steps .made * 18
-  pub count : drainOf (after u steps) .count ≡ length (stepsOf (after u steps))
-  pub run : drainOf (after u steps) .state ≡ after u (steps ++ stepsOf (after u steps))
-  pub made : drainOf (after u steps) .state .made ≡ after u steps .made
+pub record Drains (drain : State → Drained) (u : Setup) (steps : List Step) : Type 0 where
+  pub answer : drain (after u steps) .answer ≡ 0
+  pub closes : (k : ℕ) → k < after u steps .made → closedOf (drain (after u steps) .state) k ≡ true
+  pub bound : drain (after u steps) .count ≤ after u steps .made * 18
+  pub count : drain (after u steps) .count ≡ length (stepsOf (after u steps))
+  pub run : drain (after u steps) .state ≡ after u (steps ++ stepsOf (after u steps))
+  pub made : drain (after u steps) .state .made ≡ after u steps .made
+
+abbrev pub DrainedBy : (State → Drained) → Type 0
+DrainedBy drain = (u : Setup) → Legal u → (steps : List Step) → allUp (after u steps) ≡ true → Drains drain u steps
 
 abbrev pub TheDrain : Type 0
-TheDrain = (u : Setup) → Legal u → (steps : List Step) → allUp (after u steps) ≡ true → Drains u steps
+TheDrain = DrainedBy drainOf
 
 -- .. and whatever is down, a machine that a run reached recovers: a restart is taken for each store that is down, then all stores
 -- are up and the drain closes every interaction, in at most 8 steps and 18 for each interaction made.
@@ -154,25 +157,32 @@ pub data SentReach (u : Setup) (steps : List Step) : ℕ → ℕ → Type 0 wher
   here : {k : ℕ} → SentReach u steps k k
   by : {k j i : ℕ} → SentCause u steps k j → SentReach u steps j i → SentReach u steps k i
 
-pub record Walks (u : Setup) (steps : List Step) (k : ℕ) : Type 0 where
-  pub answered : walkOf (drainOf (after u steps) .state) k .answer ≡ 0
-  pub once : (i : ℕ) → SentReach u steps k i → times i (keysWalked (drainOf (after u steps) .state) k) ≡ 1
-  pub only : (i : ℕ) → 1 ≤ times i (keysWalked (drainOf (after u steps) .state) k) → SentReach u steps k i
+pub record Walks (walk : State → ℕ → Walked) (u : Setup) (steps : List Step) (k : ℕ) : Type 0 where
+  pub answered : walk (drainOf (after u steps) .state) k .answer ≡ 0
+  pub once : (i : ℕ) → SentReach u steps k i → times i (keysOf (walk (drainOf (after u steps) .state) k)) ≡ 1
+  pub only : (i : ℕ) → 1 ≤ times i (keysOf (walk (drainOf (after u steps) .state) k)) → SentReach u steps k i
+
+abbrev pub WalkedBy : (State → ℕ → Walked) → Type 0
+WalkedBy walk =
+    (u : Setup) → Legal u → (steps : List Step) → allUp (after u steps) ≡ true → (k : ℕ) → k < after u steps .made → Walks walk u steps k
 
 abbrev pub TheWalk : Type 0
-TheWalk = (u : Setup) → Legal u → (steps : List Step) → allUp (after u steps) ≡ true → (k : ℕ) → k < after u steps .made → Walks u steps k
+TheWalk = WalkedBy walkOf
 
 -- .. and whatever is open or down, in every machine that a run reached: the walk of a key made is answered exactly if every key
 -- reachable over the causes as they were sent is closed, else it is 13; and its keys are then exactly those.
-pub record Answers (u : Setup) (steps : List Step) (k : ℕ) : Type 0 where
-  pub answered : ((i : ℕ) → SentReach u steps k i → closedOf (after u steps) i ≡ true) → walkOf (after u steps) k .answer ≡ 0
-  pub closed : walkOf (after u steps) k .answer ≡ 0 → (i : ℕ) → SentReach u steps k i → closedOf (after u steps) i ≡ true
-  pub refused : walkOf (after u steps) k .answer ≢ 0 → walkOf (after u steps) k .answer ≡ 13
-  pub once : walkOf (after u steps) k .answer ≡ 0 → (i : ℕ) → SentReach u steps k i → times i (keysWalked (after u steps) k) ≡ 1
-  pub only : walkOf (after u steps) k .answer ≡ 0 → (i : ℕ) → 1 ≤ times i (keysWalked (after u steps) k) → SentReach u steps k i
+pub record Answers (walk : State → ℕ → Walked) (u : Setup) (steps : List Step) (k : ℕ) : Type 0 where
+  pub answered : ((i : ℕ) → SentReach u steps k i → closedOf (after u steps) i ≡ true) → walk (after u steps) k .answer ≡ 0
+  pub closed : walk (after u steps) k .answer ≡ 0 → (i : ℕ) → SentReach u steps k i → closedOf (after u steps) i ≡ true
+  pub refused : walk (after u steps) k .answer ≢ 0 → walk (after u steps) k .answer ≡ 13
+  pub once : walk (after u steps) k .answer ≡ 0 → (i : ℕ) → SentReach u steps k i → times i (keysOf (walk (after u steps) k)) ≡ 1
+  pub only : walk (after u steps) k .answer ≡ 0 → (i : ℕ) → 1 ≤ times i (keysOf (walk (after u steps) k)) → SentReach u steps k i
+
+abbrev pub AnsweredBy : (State → ℕ → Walked) → Type 0
+AnsweredBy walk = (u : Setup) → Legal u → (steps : List Step) (k : ℕ) → k < after u steps .made → Answers walk u steps k
 
 abbrev pub EveryWalk : Type 0
-EveryWalk = (u : Setup) → Legal u → (steps : List Step) (k : ℕ) → k < after u steps .made → Answers u steps k
+EveryWalk = AnsweredBy walkOf
 
 -- 8. Books. The machine that `run` gives for a book that is not refused is the one after a run from a legal setup, so 1 to 7 hold of it.
 pub record BookRun (book : List ℕ) (room : ℕ) : Type 0 where

@@ -45,9 +45,6 @@ onTakeRecord s said rest = pick (eqb (kind s) 6) (said (field s 1) (field s 2) (
 abbrev pub onTakeAck : {A : Type 0} → Step → ((store key role : ℕ) → A) → A → A
 onTakeAck s said rest = pick (eqb (kind s) 7) (said (field s 1) (field s 2) (field s 3)) rest
 
-abbrev pub onPostCheck : {A : Type 0} → Step → ((actor : ℕ) → A) → A → A
-onPostCheck s said rest = pick (eqb (kind s) 8) (said (field s 1)) rest
-
 abbrev pub onTakeRepair : {A : Type 0} → Step → ((key role : ℕ) → A) → A → A
 onTakeRepair s said rest = pick (eqb (kind s) 9) (said (field s 1) (field s 2)) rest
 
@@ -56,3 +53,6 @@ onTakeUack s said rest = pick (eqb (kind s) 12) (said (field s 1) (field s 2) (f
 
 abbrev pub onCrash : {A : Type 0} → Step → ((store : ℕ) → A) → A → A
 onCrash s said rest = pick (eqb (kind s) 15) (said (field s 1)) rest
+
+abbrev pub onRestart : {A : Type 0} → Step → ((store : ℕ) → A) → A → A
+onRestart s said rest = pick (eqb (kind s) 16) (said (field s 1)) rest
