@@ -74,12 +74,8 @@ fn read(rule: u8) {
 
 fn main() {
     let rule = word::rule();
-    if rule == 1 {
-        read(1);
-        return;
-    }
-    if rule == 2 {
-        read(2);
+    if pair_rule::is_rule(rule) {
+        read(rule);
         return;
     }
     refuse(19);

@@ -30,7 +30,8 @@ fn answered(passes: bool) -> Checked
     Checked { answer: 0, passes }
 }
 
-fn is_rule(rule: u8) -> bool
+// Whether a number names one of the two rules.
+pub fn is_rule(rule: u8) -> bool
     ensures { λ r. ⌜ r ≡ isRule rule ⌝ }
 {
     if rule == 1 {
