@@ -21,4 +21,5 @@ every-export =
       drain-count = λ book text count. determined _ _ _;
       walk-keys = λ book key keys. determined _ _ _;
       walk-count = λ book key keys count. determined _ _ _;
+      pair-passes = λ book rule key passes. determined _ _ _;
     }

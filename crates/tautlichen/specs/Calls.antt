@@ -12,6 +12,9 @@ use Rattle.protocol.specs.Walk.{walkOf}
 use Rattle.reaches.specs.Reaches.{keysOf}
 use Rattle.protocol.specs.Listing.{listingOf}
 use Rattle.tautlichen.specs.Lent.{first, shortNo}
+use Rattle.protocol.specs.Words.{pick}
+use Rattle.pairing.specs.declared.Checked.{Checked}
+use Rattle.pairing.specs.Pair.{isRule, checkOf}
 
 -- the listing of a run
 abbrev pub ranListing : Ran → List ℕ
@@ -44,3 +47,10 @@ walkAfter book key = walkOf (history book .state) key
 
 unfoldable pub walkNo : List ℕ → ℕ → List ℕ → ℕ
 walkNo book key keys = first (history book .answer) (first (walkAfter book key .answer) (shortNo (keysOf (walkAfter book key)) keys))
+
+-- The pair rule of a key after a book: 19 for another rule, then the run's refusals, then the check's.
+abbrev pub pairAfter : List ℕ → ℕ → ℕ → Checked
+pairAfter book rule key = checkOf (history book .state) rule key
+
+unfoldable pub pairNo : List ℕ → ℕ → ℕ → ℕ
+pairNo book rule key = pick (isRule rule) (first (history book .answer) (pairAfter book rule key .answer)) 19

@@ -6,7 +6,8 @@ use lib.ListN.{length}
 use Rattle.protocol.specs.Run.{runOf, bufferOf}
 use Rattle.reaches.specs.Reaches.{keysOf}
 use Rattle.tautlichen.specs.Lent.{lent, over}
-use Rattle.tautlichen.specs.Calls.{listText, listNo, drainAfter, drainText, drainNo, walkAfter, walkNo}
+use Rattle.tautlichen.specs.Calls.{listText, listNo, drainAfter, drainText, drainNo, walkAfter, walkNo, pairAfter, pairNo}
+use Rattle.protocol.specs.Words.{one}
 
 -- of two results with their numbers, where such is the number and such is written
 abbrev pub Determined : {A : Type 0} → ℕ → A → A → Type 0
@@ -25,3 +26,4 @@ pub record EveryExport : Type 0 where
   pub drain-count : (book text : List ℕ) (count : ℕ) → Determined (drainNo book text) (drainAfter book .count) count
   pub walk-keys : (book : List ℕ) (key : ℕ) (keys : List ℕ) → Determined (walkNo book key keys) (over (keysOf (walkAfter book key)) keys) keys
   pub walk-count : (book : List ℕ) (key : ℕ) (keys : List ℕ) (count : ℕ) → Determined (walkNo book key keys) (walkAfter book key .count) count
+  pub pair-passes : (book : List ℕ) (rule key passes : ℕ) → Determined (pairNo book rule key) (one (pairAfter book rule key .passes)) passes
