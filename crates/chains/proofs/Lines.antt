@@ -33,11 +33,11 @@ plain-digit : (d : ℕ) → not (eqb (glyph d) 10) ≡ true
 plain-digit d = not-of (eqb (glyph d) 10) (ne-eqb (glyph d) 10 (λ e. omega arith))
 
 -- a number below 100 is one digit or two
-one-digit : (n : ℕ) → n < 10 → decimal n ≡ glyph n ∷ []
+pub one-digit : (n : ℕ) → n < 10 → decimal n ≡ glyph n ∷ []
 unfolding decimal
 one-digit n h = rw (lt-ltb n 10 h)
 
-two-digits : (n : ℕ) → 10 ≤ n → n < 100 → decimal n ≡ glyph (n / 10) ∷ glyph (n % 10) ∷ []
+pub two-digits : (n : ℕ) → 10 ≤ n → n < 100 → decimal n ≡ glyph (n / 10) ∷ glyph (n % 10) ∷ []
 unfolding decimal
 two-digits n l h = rw (le-ltb n 10 l, lt-ltb n 100 h)
 

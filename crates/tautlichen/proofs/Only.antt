@@ -1,7 +1,7 @@
 -- Each promise has one result: two numbers that equal the same are equal, and then what is written by them is too. Assumes nothing.
 use Prim.Native.Nat.{ℕ}
 use mathlib.Core.Path.{_≡_, sym, ap, _∙_}
-use Rattle.tautlichen.specs.Lent.{lent}
+use Rattle.protocol.specs.Lent.{lent}
 use Rattle.tautlichen.specs.Only.{Determined, EveryExport}
 
 determined : {A : Type 0} (number : ℕ) (written was : A) → Determined number written was

@@ -11,7 +11,7 @@ use Rattle.protocol.specs.declared.Walked.{Walked}
 use Rattle.protocol.specs.Walk.{walkOf}
 use Rattle.reaches.specs.Reaches.{keysOf}
 use Rattle.protocol.specs.Listing.{listingOf}
-use Rattle.tautlichen.specs.Lent.{first, shortNo}
+use Rattle.protocol.specs.Lent.{first, shortNo}
 use Rattle.tautlichen.specs.Calls.{history, drainAfter, drainText, drainNo, walkAfter, walkNo}
 
 second-of : {n a b : ℕ} (c : ℕ) → a ≡ 0 → n ≡ b → (n ≡ 0 → ⊥) → n ≡ first a (first b c)

@@ -11,7 +11,7 @@ use Rattle.protocol.specs.declared.Walked.{Walked}
 use Rattle.protocol.specs.Walk.{walkOf}
 use Rattle.reaches.specs.Reaches.{keysOf}
 use Rattle.protocol.specs.Listing.{listingOf}
-use Rattle.tautlichen.specs.Lent.{first, shortNo}
+use Rattle.protocol.specs.Lent.{first, shortNo}
 
 -- the listing of a run
 abbrev pub ranListing : Ran → List ℕ

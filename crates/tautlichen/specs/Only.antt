@@ -5,7 +5,7 @@ use mathlib.Core.List.{List}
 use lib.ListN.{length}
 use Rattle.protocol.specs.Run.{runOf, bufferOf}
 use Rattle.reaches.specs.Reaches.{keysOf}
-use Rattle.tautlichen.specs.Lent.{lent, over}
+use Rattle.protocol.specs.Lent.{lent, over}
 use Rattle.tautlichen.specs.Calls.{listText, listNo, drainAfter, drainText, drainNo, walkAfter, walkNo}
 
 -- of two results with their numbers, where such is the number and such is written
