@@ -10,7 +10,7 @@ ghost use Rattle.protocol.specs.Run.{runOf, bufferOf};
 ghost use Rattle.reaches.specs.Reaches.{keysOf};
 ghost use Rattle.protocol.specs.Listing.{listingOf};
 ghost use Rattle.protocol.specs.Lent.{first, lent, shortNo, over};
-ghost use Rattle.tautlichen.specs.Calls.{listText, listNo, history, drainAfter, drainText, drainNo, walkAfter, walkNo};
+ghost use Rattle.tautlichen.specs.Calls.{listText, listNo, history, drainAfter, drainText, drainNo, walkAfter, walkNo, lineageText, lineageNo};
 
 // Writes the listing of a machine after so many steps, of which so many were taken, and its length.
 fn show(m: State, steps: u16, taken: u16, text: &mut [u8], len: &mut u16) -> u8
@@ -143,5 +143,26 @@ pub extern "C" fn tautlichen_walk(book: &[u8], key: u8, keys: &mut [u8], count: 
         return no;
     }
     *count = walked.count;
+    0
+}
+
+// Writes the walk of a key in the machine after a book as a PROV-N document, and its length. Refused with 10, 11, then 2, 13,
+// then 14.
+#[no_mangle]
+pub extern "C" fn tautlichen_lineage(book: &[u8], key: u8, text: &mut [u8], len: &mut u16) -> u8
+    ensures number { λ r. ⌜ r ≡ lineageNo (now (book .entry)) key (now (text .entry)) ⌝ }
+    ensures text { λ r. ⌜ now (text .exit) ≡ lent r (over (lineageText (now (book .entry)) key) (now (text .entry))) (now (text .entry)) ⌝ }
+    ensures len { λ r. ⌜ now (len .exit) ≡ lent r (length (lineageText (now (book .entry)) key)) (now (len .entry)) ⌝ }
+{
+    let ran = after(book);
+    if ran.answer != 0 {
+        return ran.answer;
+    }
+    let m = ran.state;
+    let written = provn::write(m, key, text);
+    if written.answer != 0 {
+        return written.answer;
+    }
+    *len = written.len;
     0
 }
