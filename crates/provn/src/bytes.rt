@@ -4,7 +4,7 @@ ghost use Rattle.protocol.specs.Listing.{decimal};
 ghost use Rattle.provn.specs.Sheet.{Writes};
 
 // One byte more, where there is room.
-pub fn put(out: &mut [u8], at: usize, b: u8) -> usize
+pub(crate) fn put(out: &mut [u8], at: usize, b: u8) -> usize
     ensures { λ r. ⌜ Writes (now (out .entry)) at (b ∷ []) (now (out .exit)) r ⌝ }
 {
     if at < out.len() {
@@ -14,7 +14,7 @@ pub fn put(out: &mut [u8], at: usize, b: u8) -> usize
     at
 }
 
-pub fn words(out: &mut [u8], at: usize, text: &[u8]) -> usize
+pub(crate) fn words(out: &mut [u8], at: usize, text: &[u8]) -> usize
     ensures { λ r. ⌜ Writes (now (out .entry)) at (now (text .entry)) (now (out .exit)) r ⌝ }
 {
     let mut end = at;
@@ -26,7 +26,7 @@ pub fn words(out: &mut [u8], at: usize, text: &[u8]) -> usize
     end
 }
 
-pub fn number(out: &mut [u8], at: usize, n: u8) -> usize
+pub(crate) fn number(out: &mut [u8], at: usize, n: u8) -> usize
     ensures { λ r. ⌜ Writes (now (out .entry)) at (decimal n) (now (out .exit)) r ⌝ }
 {
     if n < 10 {

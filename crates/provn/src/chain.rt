@@ -24,7 +24,7 @@ fn stated(views: [View; 32], key: u8) -> Interaction
     }
 }
 
-pub fn chain(views: [View; 32], keys: [u8; 16]) -> [Interaction; 16]
+pub(crate) fn chain(views: [View; 32], keys: [u8; 16]) -> [Interaction; 16]
     ensures { λ r. ⌜ r ≡ map (statedIn views) keys ⌝ }
 {
     let mut out = [Interaction {

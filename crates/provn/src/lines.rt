@@ -164,7 +164,7 @@ fn each_activity(out: &mut [u8], at: usize, chain: [Interaction; 16], count: usi
 }
 
 // The document of the first interactions of a chain.
-pub fn document(out: &mut [u8], chain: [Interaction; 16], count: usize) -> usize
+pub(crate) fn document(out: &mut [u8], chain: [Interaction; 16], count: usize) -> usize
     requires { ⌜ count ≤ 16 ⌝ }
     ensures { λ r. ⌜ Writes (now (out .entry)) 0 (textOf (linesOf (take count chain))) (now (out .exit)) r ⌝ }
 {
