@@ -19,7 +19,7 @@ use Rattle.protocol.specs.declared.State.{State}
 use Rattle.protocol.specs.declared.Interaction.{Interaction}
 use Rattle.unbroken.proofs.Laws.Tests.{by-test}
 use Rattle.chains.specs.Reading.{chainRead, recovered}
-use Rattle.chains.specs.Chains.{Each, none, more, Lawful, sixteenBits, ChainRecovered, WalkRecovered, ValueRecovered, OneChain, Longest}
+use Rattle.chains.specs.Chains.{Each, none, more, Lawful, sixteenBits, ChainRecovered, WalkRecovered, ValueRecovered, OneChain, Longest, OneDocument}
 use Rattle.chains.proofs.Lines.{Fair, fair-document, fair-prefix, fair-entity, fair-activity, fair-generated, fair-used, fair-derived, fair-end, lines-read}
 use Rattle.chains.proofs.Stated.{lines-state}
 use Rattle.chains.proofs.Walks.{chain-lawful, keys-once, no-chain}
@@ -98,3 +98,6 @@ longest m k =
 
     empty : (i : ℕ) → times i [] ≤ 1
     empty i = unfold times in omega arith
+
+pub one-document : OneDocument
+one-document m k buffer x y b c p q r s = (p ∙ sym r, q ∙ sym s)

@@ -8,9 +8,10 @@ use Rattle.protocol.specs.Words.{bit}
 use Rattle.protocol.specs.Slots.{number, view, contents}
 use Rattle.protocol.specs.Walk.{foundOf, walkOf}
 use Rattle.protocol.specs.Chain.{stated, chainOf}
-use Rattle.protocol.specs.Provn.{textOf, linesOf, provnText}
+use Rattle.protocol.specs.Provn.{textOf, linesOf, provnText, provnOf, provnBuffer}
 use Rattle.protocol.specs.declared.State.{State}
 use Rattle.protocol.specs.declared.Interaction.{Interaction}
+use Rattle.protocol.specs.declared.Written.{Written}
 use Rattle.chains.specs.Reading.{recovered}
 
 -- every element of a list
@@ -57,3 +58,9 @@ abbrev pub LookedUp : Type 0
 LookedUp =
     (m : State) (k i link : ℕ) → walkOf m k .answer ≡ 0 → i < 16 → foundOf m i link ≡ true →
     (contents m (link - 1) (number i 0) .asserter ≡ stated m i .sender) × (contents m (link - 1) (number i 0) .causes ≡ stated m i .causes)
+
+-- no two results of the call can both satisfy its promise
+abbrev pub OneDocument : Type 0
+OneDocument =
+    (m : State) (k : ℕ) (buffer : List ℕ) (x y : Written) (b c : List ℕ) →
+    x ≡ provnOf m k buffer → b ≡ provnBuffer m k buffer → y ≡ provnOf m k buffer → c ≡ provnBuffer m k buffer → (x ≡ y) × (b ≡ c)
