@@ -8,13 +8,13 @@ use mathlib.Core.List.{List, [], _∷_, _++_, map}
 use native.Mathlib.Omega.{arith}
 use native.Mathlib.Nat.{mod-eq-of-lt}
 use lib.Dec.{eqb}
-use lib.ListN.{length, getD, set, replicate}
+use lib.ListN.{getD, set, replicate}
 use borrow.Author.Tests.{eqb-true, eqb-false}
-use Rattle.protocol.specs.Words.{pick, bit, times}
+use Rattle.protocol.specs.Words.{bit, times}
 use Rattle.protocol.specs.Slots.{number, view}
 use Rattle.protocol.specs.Walk.{walkOf}
 use Rattle.protocol.specs.Chain.{stated, keysOf, chainOf}
-use Rattle.protocol.specs.Provn.{Line, textOf, entities, activities, derivations, relations, linesOf, provnText}
+use Rattle.protocol.specs.Provn.{entities, activities, derivations, relations, linesOf}
 use Rattle.protocol.specs.declared.State.{State}
 use Rattle.protocol.specs.declared.Interaction.{Interaction}
 use Rattle.unbroken.proofs.Laws.Tests.{by-test}

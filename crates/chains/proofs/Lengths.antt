@@ -1,6 +1,6 @@
 -- How long a text can be: each interaction has its own weight, at most that of all causes below it; distinct keys below
 -- sixteen weigh at most what all sixteen do, and each of eight actors is declared at most once. Assumes nothing.
-use Prim.Native.Nat.{ℕ, zero, suc, _+_, _*_, _-_, _/_, _%_, _≤_, _<_}
+use Prim.Native.Nat.{ℕ, zero, suc, _+_, _*_, _-_, _≤_, _<_}
 use mathlib.Core.Path.{_≡_, refl, sym, ap, _∙_}
 use mathlib.Core.Bool.{Bool, true, false}
 use mathlib.Core.List.{List, [], _∷_, _++_, map}
@@ -12,7 +12,7 @@ use lib.ListN.{length, getD, set, replicate, length-append, length-set}
 use borrow.Author.Tests.{lt-ltb, eq-eqb, ne-eqb}
 use Rattle.protocol.specs.Words.{pick, bit, one, times}
 use Rattle.protocol.specs.Listing.{decimal}
-use Rattle.protocol.specs.Provn.{Line, document, prefix, entity, activity, wasGeneratedBy, used, wasDerivedFrom, endDocument}
+use Rattle.protocol.specs.Provn.{Line, entity, activity, wasGeneratedBy, used, wasDerivedFrom}
 use Rattle.protocol.specs.Provn.{wordsOf, textOf, entities, activities, derivations, relations, linesOf}
 use Rattle.protocol.specs.declared.Interaction.{Interaction}
 use Rattle.unbroken.proofs.Laws.Tests.{by-test}

@@ -1,20 +1,19 @@
 -- The lines of a text are read back: a line feed ends each line and stands in none, and a number of two digits at most
 -- is followed by a byte below the digits. Assumes nothing.
-use Prim.Native.Nat.{ℕ, _+_, _-_, _*_, _/_, _%_, _<_, _≤_}
+use Prim.Native.Nat.{ℕ, _+_, _-_, _/_, _%_, _<_, _≤_}
 use mathlib.Core.Path.{_≡_, refl, sym, ap, _∙_}
 use mathlib.Core.Bool.{Bool, true, false, _&&_, not}
-use mathlib.Core.List.{List, [], _∷_, _++_, map, append-assoc}
+use mathlib.Core.List.{List, [], _∷_, _++_, map}
 use native.Mathlib.Omega.{arith}
 use native.Mathlib.Nat.{div-add-mod}
 use native.Mathlib.Decide.{decLt}
 use lib.Dec.{ltb, eqb}
 use borrow.Author.Tests.{lt-ltb, le-ltb, ne-eqb}
-use Rattle.protocol.specs.Words.{pick}
 use Rattle.protocol.specs.Listing.{decimal, glyph}
 use Rattle.protocol.specs.Provn.{Line, document, prefix, entity, activity, wasGeneratedBy, used, wasDerivedFrom, endDocument}
 use Rattle.protocol.specs.Provn.{bytes, wordsOf, textOf}
 use Rattle.unbroken.proofs.Laws.Tests.{and-left, and-right, and-both, not-of}
-use Rattle.chains.specs.Reading.{ontoFirst, linesIn, numberIn, behind, lineRead}
+use Rattle.chains.specs.Reading.{linesIn, numberIn, behind, lineRead}
 use Rattle.chains.specs.Chains.{Each, none, more}
 
 -- no byte is a line feed

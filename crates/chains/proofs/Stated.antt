@@ -1,7 +1,7 @@
 -- The lines of a chain state it: each `wasGeneratedBy` is followed by the causes of its own interaction, and sixteen bits
 -- are the sum of those that are set. Assumes nothing.
-use Prim.Native.Nat.{ℕ, zero, suc, _+_, _*_, _/_, _%_, _^_, _≤_, _<_}
-use mathlib.Core.Path.{_≡_, refl, sym, ap, _∙_}
+use Prim.Native.Nat.{ℕ, zero, suc, _+_, _*_, _/_, _%_, _^_, _<_}
+use mathlib.Core.Path.{_≡_, refl, ap, _∙_}
 use mathlib.Core.Bool.{Bool, true, false}
 use mathlib.Core.List.{List, [], _∷_, _++_, map, append-assoc}
 use native.Mathlib.Omega.{arith}
@@ -12,8 +12,8 @@ use lib.Pow.{pow-pos}
 use lib.Dec.{eqb}
 use lib.ListN.{getD, set, replicate}
 use borrow.Author.Tests.{eqb-true, eqb-false}
-use Rattle.protocol.specs.Words.{pick, bit, one}
-use Rattle.protocol.specs.Provn.{Line, document, prefix, entity, activity, wasGeneratedBy, used, wasDerivedFrom, endDocument}
+use Rattle.protocol.specs.Words.{bit, one}
+use Rattle.protocol.specs.Provn.{Line, endDocument}
 use Rattle.protocol.specs.Provn.{entities, activities, derivations, relations, linesOf}
 use Rattle.protocol.specs.declared.Interaction.{Interaction}
 use Rattle.unbroken.proofs.Laws.Tests.{by-test}

@@ -1,20 +1,19 @@
 -- The chain of a walk: its keys are distinct and below sixteen, its senders are actors of the machine, its causes are below
 -- their effects, and in whatever store the walk finds a record, the record is the view's own. A walk is answered only on a
 -- machine that is not broken. Assumes nothing.
-use Prim.Native.Nat.{ℕ, suc, _+_, _*_, _-_, _/_, _≤_, _<_}
-use mathlib.Core.Path.{_≡_, refl, sym, ap, _∙_}
-use mathlib.Core.Bool.{true, false, _&&_, not}
+use Prim.Native.Nat.{ℕ, _-_, _≤_, _<_}
+use mathlib.Core.Path.{_≡_, refl, ap}
+use mathlib.Core.Bool.{_&&_, not}
 use mathlib.Core.List.{List, [], _∷_, map}
 use native.Mathlib.Omega.{arith}
 use native.Mathlib.Decide.{decLt}
 use lib.Dec.{leb, eqb}
-use lib.ListN.{take, replicate}
-use borrow.Author.Tests.{leb-false, eq-eqb, not-true, eqb-false}
-use Rattle.protocol.specs.Words.{one, bit, times}
-use Rattle.protocol.specs.Slots.{number, view, contents}
+use borrow.Author.Tests.{leb-false, eq-eqb}
+use Rattle.protocol.specs.Words.{times}
+use Rattle.protocol.specs.Slots.{number, contents}
 use Rattle.protocol.specs.Broken.{brokenOf}
 use Rattle.protocol.specs.Closed.{closedOf}
-use Rattle.protocol.specs.Walk.{walkedFrom, foundOf, walkOf}
+use Rattle.protocol.specs.Walk.{foundOf, walkOf}
 use Rattle.protocol.specs.Chain.{stated, keysOf, chainOf}
 use Rattle.protocol.specs.declared.State.{State}
 use Rattle.protocol.specs.declared.Contents.{Contents}

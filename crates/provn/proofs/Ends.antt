@@ -1,6 +1,6 @@
 -- The ends of the call: the walk's refusal, a buffer that is too short, or the document of the walk's chain. Assumes nothing.
 use Prim.Native.Nat.{ℕ, zero, suc, _≤_}
-use mathlib.Core.Path.{_≡_, refl, sym, ap, _∙_}
+use mathlib.Core.Path.{_≡_, refl, ap, _∙_}
 use mathlib.Core.List.{List, [], _∷_, map}
 use lib.ListN.{length, take}
 use borrow.Author.Tests.{ne-eqb}

@@ -1,5 +1,4 @@
 -- `provn::chain::stated` meets its contract: there is no view behind the thirty-second. Assumes nothing.
-use mathlib.Core.Path.{sym}
 use native.Mathlib.Omega.{arith}
 use native.Mathlib.Nat.{add-zero}
 use lib.ListN.{List·getD-eq-default}
