@@ -1,0 +1,6 @@
+pub mod Activity
+pub mod Side
+pub mod Complete
+pub mod Store
+pub mod Receive
+pub mod Run
