@@ -14,6 +14,7 @@ use Rattle.activities.specs.declared.Exchange.{Exchange}
 use Rattle.activities.specs.declared.Store.{Store}
 use Rattle.activities.specs.declared.Ack.{Ack}
 use Rattle.activities.specs.declared.Ack.the-variants.{NoAck, NegotiationAck, InvocationAck, ResultAck, AdditionalAck}
+use Rattle.activities.specs.declared.Finishing.{Finishing}
 use Rattle.activities.specs.declared.Received.{Received}
 
 -- the row that a message is for: the client's table if the sender is the client, else the service's
@@ -45,9 +46,12 @@ ackOf (Additional extra) = AdditionalAck
 unfoldable pub completes : Exchange → Message → Bool
 completes e m = complete (exchangeTaken e m) && not (complete e)
 
+abbrev pub toBoth : Bool → Finishing
+toBoth now = record { client = now; service = now }
+
 -- nothing changed, nothing acknowledged
 abbrev pub refused : ℕ → Store → Received
-refused n s = record { store = s; answer = n; ack = NoAck; finished = false }
+refused n s = record { store = s; answer = n; ack = NoAck; finished = toBoth false }
 
 abbrev pub accepted : Store → Message → Received
 accepted s m =
@@ -56,7 +60,7 @@ accepted s m =
       store = written s (placeOf s (m .activity)) (exchangeTaken e m);
       answer = 0;
       ack = ackOf (m .said);
-      finished = completes e m;
+      finished = toBoth (completes e m);
     }
 
 -- 17 before 18

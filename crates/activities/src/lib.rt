@@ -96,11 +96,16 @@ pub enum Ack {
     AdditionalAck,
 }
 
-// What is answered: 0, 17 or 18; the message's own acknowledgement; whether the submission finished acknowledgements
-// go to both sides now.
+// To whom the submission finished acknowledgement goes now.
+pub struct Finishing {
+    pub client: bool,
+    pub service: bool,
+}
+
+// What is answered: 0, 17 or 18; the message's own acknowledgement; the submission finished acknowledgements.
 pub struct Received {
     pub store: Store,
     pub answer: u8,
     pub ack: Ack,
-    pub finished: bool,
+    pub finished: Finishing,
 }

@@ -5,15 +5,26 @@ ghost use Prim.Native.Nat.{ℕ, _<_};
 ghost use Rattle.activities.specs.Activity.{byClient, neither};
 ghost use Rattle.activities.specs.Side.{full as fullOf};
 ghost use Rattle.activities.specs.Store.{placeOf, exchangeOf, written as writtenOf};
-ghost use Rattle.activities.specs.Receive.{sideOf, exchangeTaken, ackOf, refused as refusedOf, accepted as acceptedOf};
+ghost use Rattle.activities.specs.Receive.{sideOf, exchangeTaken, ackOf, toBoth, refused as refusedOf, accepted as acceptedOf};
 use super::rows;
 use activities::Ack;
 use activities::Exchange;
+use activities::Finishing;
 use activities::Message;
 use activities::Received;
 use activities::Said;
 use activities::Side;
 use activities::Store;
+
+// The submission finished acknowledgement goes to both sides or to none.
+fn to_both(now: bool) -> Finishing
+    ensures { λ r. ⌜ r ≡ toBoth now ⌝ }
+{
+    Finishing {
+        client: now,
+        service: now,
+    }
+}
 
 // Nothing changed, nothing acknowledged.
 pub(crate) fn refused(s: Store, number: u8) -> Received
@@ -23,7 +34,7 @@ pub(crate) fn refused(s: Store, number: u8) -> Received
         store: s,
         answer: number,
         ack: Ack::NoAck,
-        finished: false,
+        finished: to_both(false),
     }
 }
 
@@ -110,6 +121,6 @@ pub(crate) fn accepted(s: Store, at: usize, e: Exchange, m: Message) -> Received
         store: x,
         answer: 0,
         ack: ack(said),
-        finished: now,
+        finished: to_both(now),
     }
 }

@@ -16,10 +16,20 @@ written-requires c κs = search needs
 ack-requires : tie.Need-ack-requires
 ack-requires c κs = search needs
 
+to-both-requires : tie.Need-to-both-requires
+to-both-requires c κs = search needs
+
 returns : tie.Need-returns
 unfolding completes
-returns c = simp (c .ack .ensures, c .before .written .ensures, c .before .before .completes .ensures, c .before .before .before .taken .ensures, c .before .before .before .before .pre .0, c .before .before .before .before .pre .1 .1 .0)
+returns c = simp (c .to-both .ensures, c .before .ack .ensures, c .before .before .written .ensures, c .before .before .before .completes .ensures, c .before .before .before .before .taken .ensures, c .before .before .before .before .before .pre .0, c .before .before .before .before .before .pre .1 .1 .0)
 
 pub accepted-spec : {M : Type 1} → statement M
 accepted-spec =
-    tie.close (tie.spec taken-requires completes-requires written-requires ack-requires returns)
+    tie.close
+    (tie.spec
+    taken-requires
+    completes-requires
+    written-requires
+    ack-requires
+    to-both-requires
+    returns)
