@@ -1,0 +1,7 @@
+mod Counting
+mod Lists
+mod Orders
+mod Look
+mod Rows
+mod Slots
+mod Steps
