@@ -97,3 +97,35 @@ row-full l h =
     some-filled (λ n. n .held) results each-result (emptySide .result) refl l (h .result),
     some-filled (λ n. n .held) announcements each-announcement (emptySide .finished) refl l (h .finished))
     (eq-eqb _ _ (h .count))
+
+-- the first announcement is the only one
+only : (g r : List Announced) (c : ℕ) → g ++ r ≡ announcement c ∷ [] → 1 ≤ length g → first (λ (n : Announced). n .held) (emptySide .finished) g .count ≡ c
+unfolding first
+only [] r c e h = absurd (omega arith)
+only (x ∷ g) r c e h = ap (λ n. n .count) (head-eq-of-cons-eq e)
+
+module _ (l rest : List Said) (all : SendsAll (l ++ rest)) where
+  none-left : Full l → rest ≡ []
+  none-left h =
+      let announced = only (gather announcements l) (gather announcements rest) _ (sym (gather-append announcements l rest) ∙ all .finished) (h .finished) in
+      nil-of-length rest
+      (omega
+      (arith, kinds rest, all .negotiation, all .invocation, all .result, ap length (all .finished), announced, h .count, h .negotiation, h .invocation, h .result, h .finished,
+      length-gather negotiations l rest, length-gather invocations l rest, length-gather results l rest, length-gather announcements l rest, length-gather extras l rest))
+
+all-there : (l : List Said) → SendsAll l → length (gather extras l) ≤ 8 → Full l
+unfolding first
+all-there l all room =
+    record {
+      negotiation = omega (arith, all .negotiation);
+      invocation = omega (arith, all .invocation);
+      result = omega (arith, all .result);
+      finished = omega (arith, ap length (all .finished));
+      count = ap (λ (g : List Announced). first (λ (n : Announced). n .held) (emptySide .finished) g .count) (all .finished) ∙ omega arith;
+    }
+
+pub complete-row : (l rest : List Said) → SendsAll (l ++ rest) → length (gather extras l) ≤ 8 → completeSide (sideAfter emptySide l) ≡ nothing rest
+complete-row l rest all room =
+    same-test (completeSide (sideAfter emptySide l)) (nothing rest)
+    (λ e. ap nothing (none-left l rest all (full-row l e)))
+    (λ e. row-full l (all-there l (subst SendsAll (ap (λ (r : List Said). l ++ r) (nothing-nil rest e) ∙ append-nil l) all) room))

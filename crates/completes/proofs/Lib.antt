@@ -1,3 +1,5 @@
+mod AnyOrder
+mod Completes
 mod Counting
 mod Lists
 mod Orders

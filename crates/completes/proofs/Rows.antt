@@ -39,7 +39,7 @@ each-taken a s (m ∷ l) h =
     (h [] m l refl, each-taken a (receive s m .store) l (λ before n rest e. h (m ∷ before) n rest (ap (λ (k : List Message). m ∷ k) e)))
 
 -- a sender is the client, or it is the service
-known : (m : Message) → neither m ≡ false → byClient m ≡ false → byService m ≡ true
+pub known : (m : Message) → neither m ≡ false → byClient m ≡ false → byService m ≡ true
 known m n c = go (byClient m) (byService m) n c
   where
     go : (t u : Bool) → (not t && not u) ≡ false → t ≡ false → u ≡ true
