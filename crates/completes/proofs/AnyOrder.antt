@@ -62,12 +62,12 @@ any-order-completes a l k h r taken =
     let service = reordered-gather (saidOne (a .service) a) r in
     let sends : Sends a k = record { differ = h .differ; client = sends-all client (h .client); service = sends-all service (h .service); taken = taken } in
     let same : SameTables (exchangeOf (after emptyStore l) a) (exchangeOf (after emptyStore k) a) =
-        record {
-          client = subst (λ (x : Side). SameSide x (exchangeOf (after emptyStore k) a .client)) (sym (client-row a l (h .differ) (h .taken)))
+    record {
+      client = subst (λ (x : Side). SameSide x (exchangeOf (after emptyStore k) a .client)) (sym (client-row a l (h .differ) (h .taken)))
           (subst (λ (y : Side). SameSide (sideAfter emptySide (saidBy (a .client) a l)) y) (sym (client-row a k (h .differ) taken))
           (same-side client (h .client) (client-room a l (h .differ) (h .taken)) (client-room a k (h .differ) taken)));
-          service = subst (λ (x : Side). SameSide x (exchangeOf (after emptyStore k) a .service)) (sym (service-row a l (h .differ) (h .taken)))
+      service = subst (λ (x : Side). SameSide x (exchangeOf (after emptyStore k) a .service)) (sym (service-row a l (h .differ) (h .taken)))
           (subst (λ (y : Side). SameSide (sideAfter emptySide (saidBy (a .service) a l)) y) (sym (service-row a k (h .differ) taken))
           (same-side service (h .service) (service-room a l (h .differ) (h .taken)) (service-room a k (h .differ) taken)));
-        } in
+    } in
     (completes-at-last a k sends, same)

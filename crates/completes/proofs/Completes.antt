@@ -95,11 +95,11 @@ module _ (a : Activity) (before rest : List Message) (h : Sends a (before ++ res
   complete-cut =
       let taken = cut a emptyStore before rest (h .taken) in
       let client : completeSide (exchangeOf (after emptyStore before) a .client) ≡ nothing (saidBy (a .client) a rest) =
-          ap completeSide (client-row a before (h .differ) taken)
-          ∙ complete-row (saidBy (a .client) a before) (saidBy (a .client) a rest) (subst SendsAll (gather-append (saidOne (a .client) a) before rest) (h .client)) (client-room a before (h .differ) taken) in
+      ap completeSide (client-row a before (h .differ) taken)
+      ∙ complete-row (saidBy (a .client) a before) (saidBy (a .client) a rest) (subst SendsAll (gather-append (saidOne (a .client) a) before rest) (h .client)) (client-room a before (h .differ) taken) in
       let service : completeSide (exchangeOf (after emptyStore before) a .service) ≡ nothing (saidBy (a .service) a rest) =
-          ap completeSide (service-row a before (h .differ) taken)
-          ∙ complete-row (saidBy (a .service) a before) (saidBy (a .service) a rest) (subst SendsAll (gather-append (saidOne (a .service) a) before rest) (h .service)) (service-room a before (h .differ) taken) in
+      ap completeSide (service-row a before (h .differ) taken)
+      ∙ complete-row (saidBy (a .service) a before) (saidBy (a .service) a rest) (subst SendsAll (gather-append (saidOne (a .service) a) before rest) (h .service)) (service-room a before (h .differ) taken) in
       rw (client, service) (sym (left a rest (known-rest a emptyStore before rest (h .taken))))
 
 -- one message more
@@ -123,7 +123,7 @@ finished-cut a before m rest h e =
     let whole : before ++ m ∷ rest ≡ (before ++ (m ∷ [])) ++ rest = sym (append-assoc before (m ∷ []) rest) in
     let own : exchangeOf (receive s m .store) a ≡ exchangeTaken (exchangeOf s a) m = subst (λ (b : Activity). exchangeOf (receive s m .store) b ≡ exchangeTaken (exchangeOf s b) m) p (taken-own (sized-after emptyStore before refl) takes) in
     let now : complete (exchangeTaken (exchangeOf s a) m) ≡ nothing (messagesOf a rest) =
-        ap complete (sym own) ∙ (ap (λ (t : Store). complete (exchangeOf t a)) (sym (after-one emptyStore before m)) ∙ complete-cut a (before ++ (m ∷ [])) rest (subst (Sends a) whole h)) in
+    ap complete (sym own) ∙ (ap (λ (t : Store). complete (exchangeOf t a)) (sym (after-one emptyStore before m)) ∙ complete-cut a (before ++ (m ∷ [])) rest (subst (Sends a) whole h)) in
     let not-yet : complete (exchangeOf s a) ≡ false = complete-cut a before (m ∷ rest) h ∙ rw e in
     ap (λ (r : Received). r .finished) (takes .answer)
     ∙ ap toBoth (ap (λ (b : Activity). complete (exchangeTaken (exchangeOf s b) m) && not (complete (exchangeOf s b))) p ∙ rw (not-yet, now) (and-true _))

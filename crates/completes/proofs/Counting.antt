@@ -90,12 +90,17 @@ row-full : (l : List Said) → Full l → completeSide (sideAfter emptySide l) �
 unfolding completeSide
 row-full l h =
     let counted : sideAfter emptySide l .additional .count ≡ length (gather extras l) = count-after emptySide l ∙ omega arith in
-    rw
-    (negotiation-after emptySide l, invocation-after emptySide l, result-after emptySide l, finished-after emptySide l, counted,
-    some-filled (λ n. n .held) negotiations each-negotiation (emptySide .negotiation) refl l (h .negotiation),
-    some-filled (λ n. n .held) invocations each-invocation (emptySide .invocation) refl l (h .invocation),
-    some-filled (λ n. n .held) results each-result (emptySide .result) refl l (h .result),
-    some-filled (λ n. n .held) announcements each-announcement (emptySide .finished) refl l (h .finished))
+    rw (
+      negotiation-after emptySide l,
+      invocation-after emptySide l,
+      result-after emptySide l,
+      finished-after emptySide l,
+      counted,
+      some-filled (λ n. n .held) negotiations each-negotiation (emptySide .negotiation) refl l (h .negotiation),
+      some-filled (λ n. n .held) invocations each-invocation (emptySide .invocation) refl l (h .invocation),
+      some-filled (λ n. n .held) results each-result (emptySide .result) refl l (h .result),
+      some-filled (λ n. n .held) announcements each-announcement (emptySide .finished) refl l (h .finished),
+    )
     (eq-eqb _ _ (h .count))
 
 -- the first announcement is the only one
@@ -109,9 +114,25 @@ module _ (l rest : List Said) (all : SendsAll (l ++ rest)) where
   none-left h =
       let announced = only (gather announcements l) (gather announcements rest) _ (sym (gather-append announcements l rest) ∙ all .finished) (h .finished) in
       nil-of-length rest
-      (omega
-      (arith, kinds rest, all .negotiation, all .invocation, all .result, ap length (all .finished), announced, h .count, h .negotiation, h .invocation, h .result, h .finished,
-      length-gather negotiations l rest, length-gather invocations l rest, length-gather results l rest, length-gather announcements l rest, length-gather extras l rest))
+      (omega (
+        arith,
+        kinds rest,
+        all .negotiation,
+        all .invocation,
+        all .result,
+        ap length (all .finished),
+        announced,
+        h .count,
+        h .negotiation,
+        h .invocation,
+        h .result,
+        h .finished,
+        length-gather negotiations l rest,
+        length-gather invocations l rest,
+        length-gather results l rest,
+        length-gather announcements l rest,
+        length-gather extras l rest,
+      ))
 
 all-there : (l : List Said) → SendsAll l → length (gather extras l) ≤ 8 → Full l
 unfolding first

@@ -2,8 +2,11 @@ mod AnyOrder
 mod Completes
 mod Counting
 mod Lists
-mod Orders
 mod Look
+mod Once
+mod Orders
+mod Promises
+mod Repeats
 mod Rows
 mod Slots
 mod Steps

@@ -38,7 +38,7 @@ or-right : (a b : Bool) → (a || b) ≡ false → b ≡ false
 or-right true b e = absurd (true≢false e)
 or-right false b e = e
 
-takes : (s : Store) (m : Message) → neither m ≡ false → noRoom s m ≡ false → Takes s m
+pub takes : (s : Store) (m : Message) → neither m ≡ false → noRoom s m ≡ false → Takes s m
 unfolding receive noRoom
 takes s m n e =
     record {
