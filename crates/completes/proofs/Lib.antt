@@ -1,12 +1,12 @@
-mod AnyOrder
-mod Completes
-mod Counting
-mod Lists
-mod Look
-mod Once
-mod Orders
-mod Promises
-mod Repeats
-mod Rows
-mod Slots
-mod Steps
+pub mod AnyOrder
+pub mod Completes
+pub mod Counting
+pub mod Lists
+pub mod Look
+pub mod Once
+pub mod Orders
+pub mod Promises
+pub mod Repeats
+pub mod Rows
+pub mod Slots
+pub mod Steps
