@@ -15,11 +15,12 @@ use Rattle.activities.specs.declared.Message.{Message}
 use Rattle.activities.specs.declared.Announced.{Announced}
 use Rattle.activities.specs.declared.Side.{Side}
 use Rattle.completes.specs.Order.{Reordered, gather}
-use Rattle.completes.specs.Sends.{negotiations, invocations, results, announcement, announcements, extras, saidOne, saidBy, SendsAll, NoneRefused, Sends}
-use Rattle.completes.specs.Promises.{SameSide, SameTables, AnyOrderCompletes}
+use Rattle.completes.specs.Sends.{negotiations, invocations, results, announcement, announcements, extras, saidOne, saidBy, SendsAll, NothingRefused, NoneRefused, Sends}
+use Rattle.completes.specs.Promises.{SameSide, SameTables, AnyOrderCompletes, OwnOrderCompletes}
 use Rattle.completes.proofs.Lists.{first}
 use Rattle.completes.proofs.Orders.{length-reordered, single, reordered-gather}
 use Rattle.completes.proofs.Slots.{sideAfter, negotiation-after, invocation-after, result-after, finished-after, count-after, extras-after}
+use Rattle.completes.proofs.Refusing.{no-order-refuses}
 use Rattle.completes.proofs.Completes.{client-row, service-row, client-room, service-room, completes-at-last}
 
 -- a list with one element is the same in any order
@@ -56,18 +57,23 @@ module _ {l k : List Said} (r : Reordered l k) (all : SendsAll l) where
       subst2 : {x y x′ y′ : List ℕ} → x ≡ x′ → y ≡ y′ → Reordered x y → Reordered x′ y′
       subst2 {x} {y} {x′} {y′} p q h = subst (λ (z : List ℕ). Reordered x′ z) q (subst (λ (z : List ℕ). Reordered z y) p h)
 
-pub any-order-completes : AnyOrderCompletes
-any-order-completes a l k h r taken =
+pub own-order-completes : OwnOrderCompletes
+own-order-completes a l k h before r taken =
     let client = reordered-gather (saidOne (a .client) a) r in
     let service = reordered-gather (saidOne (a .service) a) r in
-    let sends : Sends a k = record { differ = h .differ; client = sends-all client (h .client); service = sends-all service (h .service); taken = taken } in
+    let sends : Sends a k = record { differ = h .differ; client = sends-all client (h .client); service = sends-all service (h .service) } in
     let same : SameTables (exchangeOf (after emptyStore l) a) (exchangeOf (after emptyStore k) a) =
     record {
-      client = subst (λ (x : Side). SameSide x (exchangeOf (after emptyStore k) a .client)) (sym (client-row a l (h .differ) (h .taken)))
+      client = subst (λ (x : Side). SameSide x (exchangeOf (after emptyStore k) a .client)) (sym (client-row a l (h .differ) before))
           (subst (λ (y : Side). SameSide (sideAfter emptySide (saidBy (a .client) a l)) y) (sym (client-row a k (h .differ) taken))
-          (same-side client (h .client) (client-room a l (h .differ) (h .taken)) (client-room a k (h .differ) taken)));
-      service = subst (λ (x : Side). SameSide x (exchangeOf (after emptyStore k) a .service)) (sym (service-row a l (h .differ) (h .taken)))
+          (same-side client (h .client) (client-room a l (h .differ) before) (client-room a k (h .differ) taken)));
+      service = subst (λ (x : Side). SameSide x (exchangeOf (after emptyStore k) a .service)) (sym (service-row a l (h .differ) before))
           (subst (λ (y : Side). SameSide (sideAfter emptySide (saidBy (a .service) a l)) y) (sym (service-row a k (h .differ) taken))
-          (same-side service (h .service) (service-room a l (h .differ) (h .taken)) (service-room a k (h .differ) taken)));
+          (same-side service (h .service) (service-room a l (h .differ) before) (service-room a k (h .differ) taken)));
     } in
-    (completes-at-last a k sends, same)
+    (completes-at-last a k (record { sends = sends; taken = taken }), same)
+
+pub any-order-completes : AnyOrderCompletes
+any-order-completes a l k h nothing r =
+    let own : (j : List Message) → NothingRefused emptyStore j → NoneRefused a emptyStore j = λ j n before m rest e q. n before m rest e in
+    own-order-completes a l k h (own l nothing) r (own k (no-order-refuses l k nothing r))

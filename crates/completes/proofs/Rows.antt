@@ -47,8 +47,15 @@ known m n c = go (byClient m) (byService m) n c
     go false true n c = refl
     go false false n c = absurd (true≢false n)
 
+-- what goes into the service's row: what is said by a sender that isn't the client
+abbrev pub servedOne : Activity → Message → List Said
+servedOne a m = cond (same (m .activity) a && not (eqb (m .sender) (a .client))) (m .said ∷ []) []
+
+abbrev pub servedBy : Activity → List Message → List Said
+servedBy a l = gather (servedOne a) l
+
 -- both rows with one message, as what its sender said
-module _ (e : Exchange) (m : Message) (differ : m .activity .client ≢ m .activity .service) (n : neither m ≡ false) where
+module _ (e : Exchange) (m : Message) where
   client-one : exchangeTaken e m .client ≡ sideAfter (e .client) (saidOne (m .activity .client) (m .activity) m)
   unfolding exchangeTaken sideAfter
   client-one = rw (same-itself (m .activity)) (go (byClient m))
@@ -57,15 +64,13 @@ module _ (e : Exchange) (m : Message) (differ : m .activity .client ≢ m .activ
       go true = refl
       go false = refl
 
-  service-one : exchangeTaken e m .service ≡ sideAfter (e .service) (saidOne (m .activity .service) (m .activity) m)
+  service-one : exchangeTaken e m .service ≡ sideAfter (e .service) (servedOne (m .activity) m)
   unfolding exchangeTaken sideAfter
-  service-one = rw (same-itself (m .activity)) (go (byClient m) refl (byService m) refl)
+  service-one = rw (same-itself (m .activity)) (go (byClient m))
     where
-      go : (t : Bool) → byClient m ≡ t → (u : Bool) → byService m ≡ u → cond t (e .service) (sideTaken (e .service) (m .said)) ≡ sideAfter (e .service) (cond u (m .said ∷ []) [])
-      go true c true s = absurd (differ (sym (eqb-true _ _ c) ∙ eqb-true _ _ s))
-      go true c false s = refl
-      go false c true s = refl
-      go false c false s = absurd (false≢true (sym s ∙ known m n c))
+      go : (t : Bool) → cond t (e .service) (sideTaken (e .service) (m .said)) ≡ sideAfter (e .service) (cond (not t) (m .said ∷ []) [])
+      go true = refl
+      go false = refl
 
 -- no more than eight additional messages
 pub record Room (e : Exchange) : Type 0 where
@@ -92,22 +97,22 @@ taken-room e m f h = go (byClient m) f
 -- after a run: what each side said, and room
 pub record Rows (a : Activity) (s : Store) (l : List Message) : Type 0 where
   pub client : exchangeOf (after s l) a .client ≡ sideAfter (exchangeOf s a .client) (saidBy (a .client) a l)
-  pub service : exchangeOf (after s l) a .service ≡ sideAfter (exchangeOf s a .service) (saidBy (a .service) a l)
+  pub service : exchangeOf (after s l) a .service ≡ sideAfter (exchangeOf s a .service) (servedBy a l)
   pub room : Room (exchangeOf s a) → Room (exchangeOf (after s l) a)
 
 -- .. and after one message
 record Row (a : Activity) (s : Store) (m : Message) : Type 0 where
   client : exchangeOf (receive s m .store) a .client ≡ sideAfter (exchangeOf s a .client) (saidOne (a .client) a m)
-  service : exchangeOf (receive s m .store) a .service ≡ sideAfter (exchangeOf s a .service) (saidOne (a .service) a m)
+  service : exchangeOf (receive s m .store) a .service ≡ sideAfter (exchangeOf s a .service) (servedOne a m)
   room : Room (exchangeOf s a) → Room (exchangeOf (receive s m .store) a)
 
-own-row : (s : Store) (m : Message) → Sized s → m .activity .client ≢ m .activity .service → Takes s m → Row (m .activity) s m
-own-row s m long differ h =
+own-row : (s : Store) (m : Message) → Sized s → Takes s m → Row (m .activity) s m
+own-row s m long h =
     let own = taken-own long h in
     let e = exchangeOf s (m .activity) in
     record {
-      client = ap (λ (x : Exchange). x .client) own ∙ client-one e m differ (h .known);
-      service = ap (λ (x : Exchange). x .service) own ∙ service-one e m differ (h .known);
+      client = ap (λ (x : Exchange). x .client) own ∙ client-one e m;
+      service = ap (λ (x : Exchange). x .service) own ∙ service-one e m;
       room = λ r. subst Room (sym own) (taken-room e m (h .room) r);
     }
 
@@ -121,23 +126,21 @@ other-row a s m long d =
       room = λ r. subst Room (sym stays) r;
     }
 
-row : (a : Activity) (s : Store) (m : Message) → Sized s → a .client ≢ a .service → (same (m .activity) a ≡ true → receive s m .answer ≡ 0) → Row a s m
-row a s m long differ h = go (same (m .activity) a) refl
+row : (a : Activity) (s : Store) (m : Message) → Sized s → (same (m .activity) a ≡ true → receive s m .answer ≡ 0) → Row a s m
+row a s m long h = go (same (m .activity) a) refl
   where
     go : (t : Bool) → same (m .activity) a ≡ t → Row a s m
-    go true e =
-        let p = same-equal (m .activity) a e in
-        subst (λ (b : Activity). Row b s m) p (own-row s m long (subst (λ (b : Activity). b .client ≢ b .service) (sym p) differ) (takes-zero s m (h e)))
+    go true e = subst (λ (b : Activity). Row b s m) (same-equal (m .activity) a e) (own-row s m long (takes-zero s m (h e)))
     go false e = other-row a s m long e
 
-pub rows : (a : Activity) (s : Store) (l : List Message) → Sized s → a .client ≢ a .service → Taken a s l → Rows a s l
+pub rows : (a : Activity) (s : Store) (l : List Message) → Sized s → Taken a s l → Rows a s l
 unfolding after Taken gather sideAfter
-rows a s [] long differ h = record { client = refl; service = refl; room = λ r. r }
-rows a s (m ∷ l) long differ h =
-    let one = row a s m long differ (h .0) in
-    let rest = rows a (receive s m .store) l (sized-receive s m long) differ (h .1) in
+rows a s [] long h = record { client = refl; service = refl; room = λ r. r }
+rows a s (m ∷ l) long h =
+    let one = row a s m long (h .0) in
+    let rest = rows a (receive s m .store) l (sized-receive s m long) (h .1) in
     record {
       client = rest .client ∙ (ap (λ (x : Side). sideAfter x (saidBy (a .client) a l)) (one .client) ∙ sym (after-append (exchangeOf s a .client) (saidOne (a .client) a m) (saidBy (a .client) a l)));
-      service = rest .service ∙ (ap (λ (x : Side). sideAfter x (saidBy (a .service) a l)) (one .service) ∙ sym (after-append (exchangeOf s a .service) (saidOne (a .service) a m) (saidBy (a .service) a l)));
+      service = rest .service ∙ (ap (λ (x : Side). sideAfter x (servedBy a l)) (one .service) ∙ sym (after-append (exchangeOf s a .service) (servedOne a m) (servedBy a l)));
       room = λ r. rest .room (one .room r);
     }

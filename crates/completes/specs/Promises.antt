@@ -22,7 +22,7 @@ use Rattle.activities.specs.declared.Ack.the-variants.{NoAck}
 use Rattle.activities.specs.declared.Finishing.{Finishing}
 use Rattle.activities.specs.declared.Received.{Received}
 use Rattle.completes.specs.Order.{Reordered, nothing}
-use Rattle.completes.specs.Sends.{messagesOf, NoneRefused, Sends}
+use Rattle.completes.specs.Sends.{messagesOf, NothingRefused, NoneRefused, Sends}
 
 -- every value of the type has sixteen places
 abbrev pub Sized : Store → Type 0
@@ -89,8 +89,22 @@ pub record SameTables (x y : Exchange) : Type 0 where
 -- same tables, the additional ones taken as a collection.
 abbrev pub AnyOrderCompletes : Type 0
 AnyOrderCompletes =
-    (a : Activity) (l k : List Message) → Sends a l → Reordered l k → NoneRefused a emptyStore k
+    (a : Activity) (l k : List Message) → Sends a l → NothingRefused emptyStore l → Reordered l k
     → CompletesAtLast a k × SameTables (exchangeOf (after emptyStore l) a) (exchangeOf (after emptyStore k) a)
+
+-- If nothing is refused in one order, nothing is in any other.
+abbrev pub NoOrderRefuses : Type 0
+NoOrderRefuses = (l k : List Message) → NothingRefused emptyStore l → Reordered l k → NothingRefused emptyStore k
+
+-- Other activities' messages may be refused: it is enough that the activity's own aren't, in either order.
+abbrev pub OwnOrderCompletes : Type 0
+OwnOrderCompletes =
+    (a : Activity) (l k : List Message) → Sends a l → NoneRefused a emptyStore l → Reordered l k → NoneRefused a emptyStore k
+    → CompletesAtLast a k × SameTables (exchangeOf (after emptyStore l) a) (exchangeOf (after emptyStore k) a)
+
+-- The call's promise leaves one result.
+abbrev pub OneResult : Type 0
+OneResult = (s : Store) (m : Message) (r q : Received) → r ≡ receive s m → q ≡ receive s m → r ≡ q
 
 pub record Promises : Type 0 where
   pub refused : RefusedChangesNothing
@@ -98,3 +112,6 @@ pub record Promises : Type 0 where
   pub repeats : RepeatsChangeNothing
   pub once : AtMostOnce
   pub anyOrder : AnyOrderCompletes
+  pub noOrder : NoOrderRefuses
+  pub ownOrder : OwnOrderCompletes
+  pub oneResult : OneResult

@@ -7,7 +7,6 @@ use mathlib.Core.List.{List, [], _∷_, _++_}
 use lib.Dec.{eqb}
 use lib.ListN.{length}
 use Rattle.activities.specs.Activity.{same}
-use Rattle.activities.specs.Store.{emptyStore}
 use Rattle.activities.specs.Receive.{receive}
 use Rattle.activities.specs.Run.{after}
 use Rattle.activities.specs.declared.Activity.{Activity}
@@ -80,15 +79,18 @@ pub record SendsAll (l : List Said) : Type 0 where
   pub result : length (gather results l) ≡ 1
   pub finished : gather announcements l ≡ announcement (4 + length (gather extras l)) ∷ []
 
--- No message of the activity is refused, wherever it stands in the list.
+-- Nothing is refused, wherever it stands in the list.
+abbrev pub NothingRefused : Store → List Message → Type 0
+NothingRefused s l = (before : List Message) (m : Message) (rest : List Message) → l ≡ before ++ m ∷ rest → receive (after s before) m .answer ≡ 0
+
+-- No message of the activity is.
 abbrev pub NoneRefused : Activity → Store → List Message → Type 0
 NoneRefused a s l =
     (before : List Message) (m : Message) (rest : List Message) → l ≡ before ++ m ∷ rest → same (m .activity) a ≡ true
     → receive (after s before) m .answer ≡ 0
 
--- Client and service differ, both send all, nothing is refused.
+-- Client and service differ, and both send all.
 pub record Sends (a : Activity) (l : List Message) : Type 0 where
   pub differ : a .client ≢ a .service
   pub client : SendsAll (saidBy (a .client) a l)
   pub service : SendsAll (saidBy (a .service) a l)
-  pub taken : NoneRefused a emptyStore l

@@ -14,13 +14,13 @@ use Rattle.activities.specs.declared.Message.{Message}
 use Rattle.activities.specs.declared.Store.{Store}
 use Rattle.activities.specs.declared.Received.{Received}
 use Rattle.completes.specs.Order.{gather}
-use Rattle.completes.specs.Sends.{NoneRefused}
+use Rattle.completes.specs.Sends.{NothingRefused}
 use Rattle.completes.specs.Promises.{finishings}
 use Rattle.completes.proofs.Orders.{around}
 use Rattle.completes_bites.specs.Setting.{called, clients, services, last, run, turned}
 use Rattle.completes_bites.specs.Variants.{Rules, right, exchangeBy, acceptedBy, receiveBy, afterBy}
 use Rattle.completes_bites.specs.Witnesses.{Witnesses}
-use Rattle.completes_bites.proofs.Refusals.{allTaken, none-refused}
+use Rattle.completes_bites.proofs.Refusals.{allTaken, nothing-refused}
 
 -- the right rules are the store's
 right-receive : (s : Store) (m : Message) → receiveBy right s m ≡ receive s m
@@ -32,10 +32,10 @@ unfolding afterBy after
 right-after s [] = refl
 right-after s (m ∷ l) = right-after (receiveBy right s m .store) l ∙ ap (λ (r : Received). after (r .store) l) (right-receive s m)
 
-taken-run : (l : List Message) → allTaken right called emptyStore l ≡ true → NoneRefused called emptyStore l
-taken-run l h before m rest e q =
+taken-run : (l : List Message) → allTaken right emptyStore l ≡ true → NothingRefused emptyStore l
+taken-run l h before m rest e =
     ap (λ (r : Received). r .answer) (sym (right-receive (after emptyStore before) m))
-    ∙ (ap (λ (s : Store). receiveBy right s m .answer) (sym (right-after emptyStore before)) ∙ none-refused right called emptyStore l h before m rest e q)
+    ∙ (ap (λ (s : Store). receiveBy right s m .answer) (sym (right-after emptyStore before)) ∙ nothing-refused right emptyStore l h before m rest e)
 
 pub witnesses : Witnesses
 unfolding same sideTaken completeSide complete place exchangeOf written exchangeTaken noRoom completes receive after gather finishings exchangeBy acceptedBy receiveBy afterBy allTaken
@@ -46,10 +46,9 @@ witnesses =
             differ = omega arith;
             client = record { negotiation = refl; invocation = refl; result = refl; finished = refl };
             service = record { negotiation = refl; invocation = refl; result = refl; finished = refl };
-            taken = taken-run run refl;
           };
+      taken = taken-run run refl;
       reordered = around clients (services ++ (last ∷ [])) [];
-      taken = taken-run turned refl;
       known = refl;
       repeat = refl;
       refused = omega arith;

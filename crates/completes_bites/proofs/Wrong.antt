@@ -14,31 +14,31 @@ use Rattle.activities.specs.Run.{after}
 use Rattle.activities.specs.declared.Finishing.{Finishing}
 use Rattle.activities.specs.declared.Received.{Received}
 use Rattle.completes.specs.Order.{gather}
+use Rattle.completes.specs.Sends.{Sends}
 use Rattle.completes_bites.specs.Setting.{called, clients, services, last, run}
-use Rattle.completes_bites.specs.Variants.{Rules, exchangeBy, acceptedBy, receiveBy, afterBy, SendsBy, AtLastBy, RepeatsBy}
+use Rattle.completes_bites.specs.Variants.{exchangeBy, acceptedBy, receiveBy, afterBy, AtLastBy, RepeatsBy}
 use Rattle.completes_bites.specs.Witnesses.{again}
 use Rattle.completes_bites.specs.Wrong.{oneSided, tooEarly, overwritten, overwriting, Wrong}
-use Rattle.completes_bites.proofs.Refusals.{allTaken, none-refused}
+use Rattle.completes_bites.proofs.Refusals.{allTaken, nothing-refused}
 
-sends : (rules : Rules) → allTaken rules called emptyStore run ≡ true → SendsBy rules called run
+sends : Sends called run
 unfolding same gather
-sends rules h =
+sends =
     record {
       differ = omega arith;
       client = record { negotiation = refl; invocation = refl; result = refl; finished = refl };
       service = record { negotiation = refl; invocation = refl; result = refl; finished = refl };
-      taken = none-refused rules called emptyStore run h;
     }
 
 -- the client isn't told at the service's last message
 one-sided : AtLastBy oneSided → ⊥
 unfolding same sideTaken completeSide complete place exchangeOf written noRoom gather exchangeBy acceptedBy receiveBy afterBy allTaken
-one-sided h = false≢true (ap (λ (f : Finishing). f .client) (h called run (sends oneSided refl) .finished (clients ++ services) last [] refl refl))
+one-sided h = false≢true (ap (λ (f : Finishing). f .client) (h called run sends (nothing-refused oneSided emptyStore run refl) .finished (clients ++ services) last [] refl refl))
 
 -- it is complete while the service's negotiation is still to come
 too-early : AtLastBy tooEarly → ⊥
 unfolding same sideTaken completeSide complete place exchangeOf written noRoom gather exchangeBy acceptedBy receiveBy afterBy allTaken
-too-early h = true≢false (h called run (sends tooEarly refl) .complete (clients ++ services) (last ∷ []) refl)
+too-early h = true≢false (h called run sends (nothing-refused tooEarly emptyStore run refl) .complete (clients ++ services) (last ∷ []) refl)
 
 -- the list of stores in the client's negotiation is another one
 over-writing : RepeatsBy overwriting → ⊥

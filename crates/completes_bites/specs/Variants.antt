@@ -1,7 +1,6 @@
 -- Stores by the rules with some of them replaced, and two promises said of them, word for word.
 use Prim.Native.Nat.{ℕ}
 use mathlib.Core.Path.{_≡_}
-use mathlib.Core.Logic.{_≢_}
 use mathlib.Core.Bool.{Bool, true, false, _&&_, not, cond}
 use mathlib.Core.List.{List, [], _∷_, _++_}
 use Rattle.activities.specs.Activity.{same, byClient, neither}
@@ -18,7 +17,7 @@ use Rattle.activities.specs.declared.Store.{Store}
 use Rattle.activities.specs.declared.Finishing.{Finishing}
 use Rattle.activities.specs.declared.Received.{Received}
 use Rattle.completes.specs.Order.{nothing}
-use Rattle.completes.specs.Sends.{messagesOf, saidBy, SendsAll}
+use Rattle.completes.specs.Sends.{messagesOf, Sends}
 use Rattle.completes.specs.Promises.{Sized, second}
 
 -- the rules that are easily got wrong: what a message puts into a row, when an activity is complete, and whom that is told
@@ -59,17 +58,10 @@ unfoldable pub afterBy : Rules → Store → List Message → Store
 afterBy rules s [] = s
 afterBy rules s (m ∷ l) = afterBy rules (receiveBy rules s m .store) l
 
--- as NoneRefused and Sends
-abbrev pub NoneRefusedBy : Rules → Activity → Store → List Message → Type 0
-NoneRefusedBy rules a s l =
-    (before : List Message) (m : Message) (rest : List Message) → l ≡ before ++ m ∷ rest → same (m .activity) a ≡ true
-    → receiveBy rules (afterBy rules s before) m .answer ≡ 0
-
-pub record SendsBy (rules : Rules) (a : Activity) (l : List Message) : Type 0 where
-  pub differ : a .client ≢ a .service
-  pub client : SendsAll (saidBy (a .client) a l)
-  pub service : SendsAll (saidBy (a .service) a l)
-  pub taken : NoneRefusedBy rules a emptyStore l
+-- as NothingRefused
+abbrev pub NothingRefusedBy : Rules → Store → List Message → Type 0
+NothingRefusedBy rules s l =
+    (before : List Message) (m : Message) (rest : List Message) → l ≡ before ++ m ∷ rest → receiveBy rules (afterBy rules s before) m .answer ≡ 0
 
 -- as CompletesAtLast
 pub record CompletesBy (rules : Rules) (a : Activity) (l : List Message) : Type 0 where
@@ -79,7 +71,7 @@ pub record CompletesBy (rules : Rules) (a : Activity) (l : List Message) : Type 
 
 -- What both sides send completes at its last message and not before, by these rules.
 abbrev pub AtLastBy : Rules → Type 0
-AtLastBy rules = (a : Activity) (l : List Message) → SendsBy rules a l → CompletesBy rules a l
+AtLastBy rules = (a : Activity) (l : List Message) → Sends a l → NothingRefusedBy rules emptyStore l → CompletesBy rules a l
 
 -- A second message of a kind changes nothing, by these rules.
 abbrev pub RepeatsBy : Rules → Type 0

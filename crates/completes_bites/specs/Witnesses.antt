@@ -10,7 +10,7 @@ use Rattle.activities.specs.Run.{after}
 use Rattle.activities.specs.declared.Said.the-variants.{Negotiation}
 use Rattle.activities.specs.declared.Message.{Message}
 use Rattle.completes.specs.Order.{Reordered}
-use Rattle.completes.specs.Sends.{NoneRefused, Sends}
+use Rattle.completes.specs.Sends.{NothingRefused, Sends}
 use Rattle.completes.specs.Promises.{second, finishings}
 use Rattle.completes_bites.specs.Setting.{called, another, from, clients, run, turned}
 
@@ -24,8 +24,8 @@ stranger = from 99 called (Negotiation 1 2 3)
 pub record Witnesses : Type 0 where
   -- any order
   pub sends : Sends called run
+  pub taken : NothingRefused emptyStore run
   pub reordered : Reordered run turned
-  pub taken : NoneRefused called emptyStore turned
   -- a second message of a kind
   pub known : neither again ≡ false
   pub repeat : second (sideOf (exchangeOf (after emptyStore clients) called) again) (again .said) ≡ true
