@@ -1,4 +1,5 @@
 pub mod Activity
+pub mod Form
 pub mod Side
 pub mod Complete
 pub mod Store

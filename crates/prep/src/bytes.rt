@@ -1,14 +1,15 @@
-// How a message stands in the bytes: sender, session, nonce, thread, client and service, four bytes each, low first;
-// the kind, one byte; its fields, four bytes each.
-ghost use Prim.Native.Nat.{_≤_, _<_};
+// What stands at a place of the bytes: a message, and the place behind it.
+ghost use mathlib.Core.Path.{_≡_};
+ghost use Prim.Native.Nat.{_+_, _≤_, _<_};
 ghost use lib.ListN.{length};
+ghost use Rattle.activities.specs.Form.{byte as byteOf, word as wordOf, countOf, activityAt, saidAt, messageAt, widthOf, nextAt};
 use activities::Activity;
 use activities::Message;
 use activities::Said;
 
 // The byte at a place, 0 behind the last.
 fn byte(s: &[u8], i: usize) -> u32
-    ensures { λ r. ⌜ r < 256 ⌝ }
+    ensures { λ r. ⌜ (r ≡ byteOf (now (s .entry)) i) × (r < 256) ⌝ }
 {
     if i < s.len() {
         return s[i] as u32;
@@ -16,83 +17,26 @@ fn byte(s: &[u8], i: usize) -> u32
     0
 }
 
-// How many messages there are: two bytes.
+// How many messages there are.
 pub(crate) fn count(s: &[u8]) -> u32
-    ensures { λ r. ⌜ r < 65536 ⌝ }
+    ensures { λ r. ⌜ (r ≡ countOf (now (s .entry))) × (r < 65536) ⌝ }
 {
     byte(s, 0) + byte(s, 1) * 256
 }
 
-// Four bytes at a distance from a place, low first.
+// Four bytes behind a place, low first.
 fn word(s: &[u8], at: usize, behind: usize) -> u32
     requires { ⌜ at ≤ length (now s) ⌝ }
     requires { ⌜ behind < 64 ⌝ }
+    ensures { λ r. ⌜ r ≡ wordOf (now (s .entry)) (at + behind) ⌝ }
 {
     let i = at + behind;
     byte(s, i) + byte(s, i + 1) * 256 + byte(s, i + 2) * 65536 + byte(s, i + 3) * 16777216
 }
 
-// How many bytes the fields of a kind take; 0 for an unknown kind.
-fn width(kind: u32) -> usize
-    ensures { λ r. ⌜ r ≤ 12 ⌝ }
-{
-    match kind {
-        0 => 12,
-        1 => 8,
-        2 => 8,
-        3 => 4,
-        4 => 4,
-        _ => 0,
-    }
-}
-
-// The place behind the message at a place; 0 if none is there.
-pub(crate) fn next(s: &[u8], at: usize) -> usize
-    requires { ⌜ at ≤ length (now s) ⌝ }
-    ensures { λ r. ⌜ r ≤ length (now (s .entry)) ⌝ }
-{
-    let left = s.len() - at;
-    if left < 25 {
-        return 0;
-    }
-    let fields = width(byte(s, at + 24));
-    if fields == 0 {
-        return 0;
-    }
-    if left < 25 + fields {
-        return 0;
-    }
-    at + 25 + fields
-}
-
-fn said(s: &[u8], at: usize) -> Said
-    requires { ⌜ at ≤ length (now s) ⌝ }
-{
-    match byte(s, at + 24) {
-        0 => Said::Negotiation {
-            list: word(s, at, 25),
-            accepted: word(s, at, 29),
-            extra: word(s, at, 33),
-        },
-        1 => Said::Invocation {
-            extra: word(s, at, 25),
-            word: word(s, at, 29),
-        },
-        2 => Said::Result {
-            extra: word(s, at, 25),
-            word: word(s, at, 29),
-        },
-        3 => Said::Finished {
-            count: word(s, at, 25),
-        },
-        _ => Said::Additional {
-            extra: word(s, at, 25),
-        },
-    }
-}
-
 fn activity(s: &[u8], at: usize) -> Activity
     requires { ⌜ at ≤ length (now s) ⌝ }
+    ensures { λ r. ⌜ r ≡ activityAt (now (s .entry)) at ⌝ }
 {
     Activity {
         session: word(s, at, 4),
@@ -103,9 +47,43 @@ fn activity(s: &[u8], at: usize) -> Activity
     }
 }
 
+fn said(s: &[u8], at: usize) -> Said
+    requires { ⌜ at ≤ length (now s) ⌝ }
+    ensures { λ r. ⌜ r ≡ saidAt (now (s .entry)) at ⌝ }
+{
+    let kind = byte(s, at + 24);
+    let first = word(s, at, 25);
+    let second = word(s, at, 29);
+    let third = word(s, at, 33);
+    if kind == 0 {
+        return Said::Negotiation {
+            list: first,
+            accepted: second,
+            extra: third,
+        };
+    }
+    if kind == 1 {
+        return Said::Invocation {
+            extra: first,
+            word: second,
+        };
+    }
+    if kind == 2 {
+        return Said::Result {
+            extra: first,
+            word: second,
+        };
+    }
+    if kind == 3 {
+        return Said::Finished { count: first };
+    }
+    Said::Additional { extra: first }
+}
+
 // The message at a place.
 pub(crate) fn message(s: &[u8], at: usize) -> Message
     requires { ⌜ at ≤ length (now s) ⌝ }
+    ensures { λ r. ⌜ r ≡ messageAt (now (s .entry)) at ⌝ }
 {
     let sender = word(s, at, 0);
     let activity = activity(s, at);
@@ -115,4 +93,39 @@ pub(crate) fn message(s: &[u8], at: usize) -> Message
         activity: activity,
         said: said,
     }
+}
+
+// How many bytes the fields of a kind take; 0 for an unknown kind.
+fn width(kind: u32) -> usize
+    ensures { λ r. ⌜ (r ≡ widthOf kind) × (r ≤ 12) ⌝ }
+{
+    if kind == 0 {
+        return 12;
+    }
+    if kind < 3 {
+        return 8;
+    }
+    if kind < 5 {
+        return 4;
+    }
+    0
+}
+
+// The place behind the message at a place; 0 if none is there.
+pub(crate) fn next(s: &[u8], at: usize) -> usize
+    requires { ⌜ at ≤ length (now s) ⌝ }
+    ensures { λ r. ⌜ (r ≡ nextAt (now (s .entry)) at) × (r ≤ length (now (s .entry))) ⌝ }
+{
+    let left = s.len() - at;
+    let fields = width(byte(s, at + 24));
+    if left < 25 {
+        return 0;
+    }
+    if fields == 0 {
+        return 0;
+    }
+    if left < 25 + fields {
+        return 0;
+    }
+    at + 25 + fields
 }

@@ -2,6 +2,10 @@
 // then every activity that the store holds. Bytes of another form, or more than 65,536 of them, are `refused 10`.
 ghost use Prim.Native.Nat.{_≤_};
 ghost use lib.ListN.{length};
+ghost use mathlib.Core.Path.{_≡_};
+ghost use Rattle.activities.specs.Form.{countOf, wellFormed, messagesFrom};
+ghost use Rattle.activities.specs.Run.{after};
+ghost use Rattle.activities.specs.Store.{emptyStore};
 use activities::Store;
 use libc::STDIN_FILENO;
 
@@ -10,8 +14,11 @@ mod print;
 
 // Whether as many messages as the count says stand there, and nothing behind them.
 fn well_formed(s: &[u8]) -> bool
-    requires { ⌜ 2 ≤ length (now s) ⌝ }
+    ensures { λ r. ⌜ r ≡ wellFormed (now (s .entry)) ⌝ }
 {
+    if s.len() < 2 {
+        return false;
+    }
     let count = bytes::count(s);
     let mut at: usize = 2;
     let mut i: u32 = 0;
@@ -25,8 +32,10 @@ fn well_formed(s: &[u8]) -> bool
     at == s.len()
 }
 
+// The store after the messages; each answer is printed.
 fn run(s: &[u8]) -> Store
     requires { ⌜ 2 ≤ length (now s) ⌝ }
+    ensures { λ r. ⌜ r ≡ after emptyStore (messagesFrom (now (s .entry)) (countOf (now (s .entry))) 2) ⌝ }
 {
     let mut store = first_store::empty();
     let count = bytes::count(s);
@@ -48,10 +57,6 @@ fn refuse() {
 }
 
 fn serve(s: &[u8]) {
-    if s.len() < 2 {
-        refuse();
-        return;
-    }
     if well_formed(s) {
         print::store(run(s));
         return;
