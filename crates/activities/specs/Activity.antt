@@ -1,5 +1,4 @@
 -- ACTIVITYID: session, nonce, thread, client and service; two are the same if all five are.
-use Prim.Native.Nat.{ℕ}
 use mathlib.Core.Bool.{Bool, _&&_, not}
 use lib.Dec.{eqb}
 use Rattle.activities.specs.declared.Activity.{Activity}

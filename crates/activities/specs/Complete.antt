@@ -1,5 +1,5 @@
 -- Document 003's function complete: both rows have all of the first four, and sf.nm - 4 = |apl|.
-use Prim.Native.Nat.{ℕ, _+_}
+use Prim.Native.Nat.{_+_}
 use mathlib.Core.Bool.{Bool, _&&_}
 use lib.Dec.{eqb}
 use Rattle.activities.specs.Side.{additions}

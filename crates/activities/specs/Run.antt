@@ -1,5 +1,4 @@
 -- A run: messages received one after another.
-use Prim.Native.Nat.{ℕ}
 use mathlib.Core.List.{List, [], _∷_}
 use Rattle.activities.specs.Receive.{receive}
 use Rattle.activities.specs.declared.Message.{Message}

@@ -1,7 +1,7 @@
 -- An activity's row in one table, client_T[ai] or service_T[ai], and what a message puts into it (Figures 4 and 6).
 use Prim.Native.Nat.{ℕ, _+_, min}
 use mathlib.Core.Bool.{Bool, true, false, cond}
-use mathlib.Core.List.{List, []}
+use mathlib.Core.List.{List}
 use lib.Dec.{leb}
 use lib.ListN.{set, take, replicate}
 use Rattle.activities.specs.declared.Said.{Said}

@@ -1,18 +1,15 @@
 -- The same messages in another order: each side says the same things in another order, so each place has the same one message, and the
 -- additional ones are the same collection. Assumes nothing.
-use Prim.Native.Nat.{ℕ, _+_, _≤_, min}
+use Prim.Native.Nat.{ℕ, _+_, _≤_}
 use mathlib.Core.Path.{_≡_, refl, sym, ap, subst, _∙_}
-use mathlib.Core.Bool.{Bool, true, false}
-use mathlib.Core.List.{List, [], _∷_, _++_}
+use mathlib.Core.List.{List, [], _∷_}
 use native.Mathlib.Omega.{arith}
 use lib.ListN.{length, take}
 use Rattle.activities.specs.Side.{emptySide, extrasOf, additions}
 use Rattle.activities.specs.Store.{emptyStore, exchangeOf}
 use Rattle.activities.specs.Run.{after}
-use Rattle.activities.specs.declared.Activity.{Activity}
 use Rattle.activities.specs.declared.Said.{Said}
 use Rattle.activities.specs.declared.Message.{Message}
-use Rattle.activities.specs.declared.Announced.{Announced}
 use Rattle.activities.specs.declared.Side.{Side}
 use Rattle.completes.specs.Order.{Reordered, gather}
 use Rattle.completes.specs.Sends.{negotiations, invocations, results, announcement, announcements, extras, saidOne, saidBy, SendsAll, NothingRefused, NoneRefused, Sends}

@@ -1,15 +1,15 @@
 -- An activity whose two sides send all is complete exactly if none of its messages is left, and both are told so at its last one.
 -- Assumes nothing.
-use Prim.Native.Nat.{ℕ, _+_, _≤_}
+use Prim.Native.Nat.{_≤_}
 use mathlib.Core.Path.{_≡_, refl, sym, ap, subst, _∙_}
 use mathlib.Core.Logic.{_≢_}
-use mathlib.Core.Bool.{Bool, true, false, _&&_, not, cond, true≢false, false≢true}
+use mathlib.Core.Bool.{Bool, true, false, _&&_, not, cond, false≢true}
 use mathlib.Core.List.{List, [], _∷_, _++_, append-assoc}
 use native.Mathlib.Omega.{arith}
 use borrow.Author.Tests.{eqb-true}
 use lib.Dec.{eqb}
 use lib.ListN.{length}
-use Rattle.activities.specs.Activity.{same, byClient, byService, neither}
+use Rattle.activities.specs.Activity.{same, neither}
 use Rattle.activities.specs.Side.{emptySide}
 use Rattle.activities.specs.Complete.{completeSide, complete}
 use Rattle.activities.specs.Store.{fresh, emptyStore, exchangeOf}
@@ -26,10 +26,10 @@ use Rattle.completes.specs.Order.{gather, nothing}
 use Rattle.completes.specs.Sends.{messagesOf, saidOne, saidBy, extras, SendsAll, NoneRefused, Sends}
 use Rattle.completes.specs.Promises.{Sized, CompletesAtLast}
 use Rattle.completes.proofs.Lists.{and-true, and-false, Each, gather-append}
-use Rattle.completes.proofs.Look.{look, exchange-look, same-equal, same-itself}
+use Rattle.completes.proofs.Look.{look, exchange-look, same-equal}
 use Rattle.completes.proofs.Slots.{sideAfter, count-after}
 use Rattle.completes.proofs.Steps.{takes-zero, taken-own, sized-receive}
-use Rattle.completes.proofs.Rows.{servedOne, servedBy, Rows, Room, each-taken, rows, known}
+use Rattle.completes.proofs.Rows.{servedBy, Rows, Room, each-taken, rows, known}
 use Rattle.completes.proofs.Counting.{complete-row}
 
 -- an activity that no message named has empty rows

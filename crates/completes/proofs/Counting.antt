@@ -1,19 +1,17 @@
 -- A row is complete exactly if nothing is left of what the side sends: the first four are there once each, and the announced count is
 -- reached only with the last additional message. Assumes nothing.
-use Prim.Native.Nat.{ℕ, suc, _+_, _≤_, min}
+use Prim.Native.Nat.{ℕ, _+_, _≤_, min}
 use mathlib.Core.Path.{_≡_, refl, sym, ap, subst, _∙_}
-use mathlib.Core.Bool.{Bool, true, false, _&&_, not, cond, true≢false, false≢true}
+use mathlib.Core.Bool.{Bool, true, false, _&&_, not}
 use mathlib.Core.List.{List, [], _∷_, _++_, append-nil, head-eq-of-cons-eq}
 use native.Mathlib.Omega.{arith}
-use borrow.Author.Tests.{eqb-true, eq-eqb, not-false, not-true}
-use lib.Dec.{eqb}
+use borrow.Author.Tests.{eqb-true, eq-eqb, not-true}
 use lib.ListN.{length}
 use Rattle.activities.specs.Side.{emptySide, additions}
 use Rattle.activities.specs.Complete.{completeSide}
 use Rattle.activities.specs.declared.Said.{Said}
 use Rattle.activities.specs.declared.Said.the-variants.{Negotiation, Invocation, Result, Finished, Additional}
 use Rattle.activities.specs.declared.Announced.{Announced}
-use Rattle.activities.specs.declared.Side.{Side}
 use Rattle.completes.specs.Order.{gather, nothing}
 use Rattle.completes.specs.Sends.{negotiations, invocations, results, announcement, announcements, extras, SendsAll}
 use Rattle.completes.proofs.Lists.{and-left, and-right, same-test, nil-of-length, nothing-nil, some-length, length-some, length-gather, gather-append, Each, each-gather, first, first-held}

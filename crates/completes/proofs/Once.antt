@@ -1,6 +1,6 @@
 -- Once complete, an activity stays complete or has more additional messages than one side announced, for ever: it can't become complete
 -- again. Assumes nothing.
-use Prim.Native.Nat.{ℕ, _+_, _≤_, _<_, min}
+use Prim.Native.Nat.{_+_, _≤_, _<_}
 use mathlib.Core.Path.{_≡_, refl, sym, ap, subst, _∙_}
 use mathlib.Core.Logic.{_⊎_, inl, inr, ⊎-elim}
 use mathlib.Core.Bool.{Bool, true, false, _&&_, not, cond, true≢false}
@@ -8,7 +8,6 @@ use mathlib.Core.List.{List, [], _∷_}
 use native.Mathlib.Omega.{arith}
 use native.Mathlib.Decide.{decLt}
 use borrow.Author.Tests.{eqb-true, eq-eqb, ne-eqb}
-use lib.Dec.{eqb}
 use Rattle.activities.specs.Activity.{same, byClient}
 use Rattle.activities.specs.Side.{sideTaken, additions}
 use Rattle.activities.specs.Complete.{completeSide, complete}

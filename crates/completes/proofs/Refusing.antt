@@ -1,13 +1,12 @@
 -- If nothing is refused in one order, nothing is in another: the senders, the activities and the additional messages are the same.
 -- Assumes nothing.
-use Prim.Native.Nat.{ℕ, suc, _+_, _≤_, _<_, min}
+use Prim.Native.Nat.{ℕ, _+_, _≤_, _<_, min}
 use mathlib.Core.Path.{_≡_, refl, sym, ap, subst, _∙_}
-use mathlib.Core.Bool.{Bool, true, false, _&&_, _||_, not, cond, true≢false, false≢true}
+use mathlib.Core.Bool.{Bool, true, false, _||_, cond, false≢true}
 use mathlib.Core.List.{List, [], _∷_, _++_, append-assoc, append-nil, head-eq-of-cons-eq, tail-eq-of-cons-eq, nil≢cons}
 use native.Mathlib.Omega.{arith}
-use borrow.Author.Tests.{lt-leb, eq-eqb}
-use lib.Dec.{leb, eqb}
-use lib.ListN.{length, take, length-take, length-append}
+use borrow.Author.Tests.{lt-leb}
+use lib.ListN.{length, length-take, length-append}
 use Rattle.activities.specs.Activity.{same, byClient, neither}
 use Rattle.activities.specs.Side.{emptySide, full}
 use Rattle.activities.specs.Store.{emptyStore, holds, place, placeOf, exchangeOf}
@@ -22,15 +21,15 @@ use Rattle.activities.specs.declared.Exchange.{Exchange}
 use Rattle.activities.specs.declared.Store.{Store}
 use Rattle.activities.specs.declared.Received.{Received}
 use Rattle.completes.specs.Order.{Reordered, gather}
-use Rattle.completes.specs.Sends.{saidOne, saidBy, extras, NothingRefused, NoneRefused}
+use Rattle.completes.specs.Sends.{saidOne, extras, NothingRefused, NoneRefused}
 use Rattle.completes.specs.Promises.{Sized, NoOrderRefuses}
-use Rattle.completes.proofs.Lists.{gather-append, length-gather, nil-of-length}
+use Rattle.completes.proofs.Lists.{gather-append, length-gather}
 use Rattle.completes.proofs.Look.{same-itself, exchange-name, holds-written}
-use Rattle.completes.proofs.Names.{among, among-reordered, named, Distinct, ofMessages, collected, among-collected, distinct-collected, no-more, names, length-names, names-put, place-found, place-last, length-named}
+use Rattle.completes.proofs.Names.{among, among-reordered, named, ofMessages, collected, among-collected, distinct-collected, no-more, names, length-names, names-put, place-found, place-last, length-named}
 use Rattle.completes.proofs.Orders.{length-reordered, reordered-gather}
-use Rattle.completes.proofs.Slots.{sideAfter, count-after}
-use Rattle.completes.proofs.Steps.{Takes, takes, takes-zero, taken-answer, sized-receive}
-use Rattle.completes.proofs.Rows.{servedOne, servedBy}
+use Rattle.completes.proofs.Slots.{count-after}
+use Rattle.completes.proofs.Steps.{takes, takes-zero, taken-answer, sized-receive}
+use Rattle.completes.proofs.Rows.{servedOne}
 use Rattle.completes.proofs.Completes.{client-said, service-said, client-few, service-few}
 
 -- the premise, message by message

@@ -1,17 +1,17 @@
 -- A second message of a kind finds its place taken, so that the row, both rows and the store stay. Assumes nothing.
-use Prim.Native.Nat.{ℕ, _≤_, _<_, min}
+use Prim.Native.Nat.{_≤_, _<_, min}
 use mathlib.Core.Path.{_≡_, refl, sym, ap, _∙_}
-use mathlib.Core.Bool.{Bool, true, false, _&&_, _||_, not, cond, false≢true}
+use mathlib.Core.Bool.{Bool, true, false, _&&_, not, cond, false≢true}
 use native.Mathlib.Omega.{arith}
 use native.Mathlib.Decide.{decLt}
 use borrow.Author.Tests.{lt-ltb, lt-leb}
-use lib.ListN.{length, getD, set, length-take, List·getD-eq-default}
+use lib.ListN.{getD, set, length-take, List·getD-eq-default}
 use lib.Seq.{getD-take, set-getD}
-use Rattle.activities.specs.Activity.{byClient, neither}
+use Rattle.activities.specs.Activity.{byClient}
 use Rattle.activities.specs.Side.{emptySide, sideTaken, full}
 use Rattle.activities.specs.Complete.{complete}
 use Rattle.activities.specs.Store.{fresh, holds, placeOf, exchangeOf, written}
-use Rattle.activities.specs.Receive.{sideOf, exchangeTaken, noRoom, ackOf, completes, toBoth, receive}
+use Rattle.activities.specs.Receive.{sideOf, exchangeTaken, noRoom, ackOf, completes, toBoth}
 use Rattle.activities.specs.declared.Activity.{Activity}
 use Rattle.activities.specs.declared.Said.{Said}
 use Rattle.activities.specs.declared.Said.the-variants.{Negotiation, Invocation, Result, Finished, Additional}

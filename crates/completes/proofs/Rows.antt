@@ -1,12 +1,11 @@
 -- The rows of an activity after a run are what its client and its service said, one after another: other activities' messages don't
 -- show. Assumes nothing.
-use Prim.Native.Nat.{ℕ, _+_, _≤_}
+use Prim.Native.Nat.{_≤_}
 use mathlib.Core.Path.{_≡_, refl, sym, ap, subst, _∙_}
-use mathlib.Core.Logic.{_≢_, ⊎-elim}
-use mathlib.Core.Bool.{Bool, true, false, _&&_, not, cond, true≢false, false≢true}
-use mathlib.Core.List.{List, [], _∷_, _++_}
+use mathlib.Core.Bool.{Bool, true, false, _&&_, not, cond, true≢false}
+use mathlib.Core.List.{List, [], _∷_}
 use native.Mathlib.Omega.{arith}
-use borrow.Author.Tests.{eqb-true, eqb-false, eq-eqb, ne-eqb, leb-false}
+use borrow.Author.Tests.{leb-false}
 use lib.Dec.{eqb}
 use Rattle.activities.specs.Activity.{same, byClient, byService, neither}
 use Rattle.activities.specs.Side.{sideTaken, full}

@@ -6,13 +6,11 @@ use mathlib.Core.Bool.{Bool, true, false, _||_, true≢false}
 use borrow.Author.Tests.{leb-false}
 use native.Mathlib.Omega.{arith}
 use lib.Dec.{leb}
-use Rattle.activities.specs.Activity.{same, neither}
+use Rattle.activities.specs.Activity.{neither}
 use Rattle.activities.specs.Side.{full}
 use Rattle.activities.specs.Store.{placeOf, exchangeOf}
 use Rattle.activities.specs.Receive.{sideOf, exchangeTaken, noRoom, refused, accepted, receive}
-use Rattle.activities.specs.declared.Activity.{Activity}
 use Rattle.activities.specs.declared.Message.{Message}
-use Rattle.activities.specs.declared.Exchange.{Exchange}
 use Rattle.activities.specs.declared.Store.{Store}
 use Rattle.activities.specs.declared.Received.{Received}
 use lib.ListN.{length}

@@ -1,5 +1,4 @@
 -- Lists: the same elements in another order, what a list gives element by element, whether it has any.
-use Prim.Native.Nat.{ℕ}
 use mathlib.Core.Bool.{Bool, true, false}
 use mathlib.Core.List.{List, [], _∷_, _++_}
 

@@ -1,8 +1,7 @@
 -- The runs are computed. Assumes nothing.
-use mathlib.Core.Path.{_≡_, refl, sym, ap, subst, _∙_}
+use mathlib.Core.Path.{_≡_, refl, sym, ap, _∙_}
 use mathlib.Core.Bool.{true}
 use native.Mathlib.Omega.{arith}
-use Prim.Native.Nat.{ℕ}
 use mathlib.Core.List.{List, [], _∷_, _++_}
 use Rattle.activities.specs.Activity.{same}
 use Rattle.activities.specs.Side.{sideTaken}
@@ -17,8 +16,8 @@ use Rattle.completes.specs.Order.{gather}
 use Rattle.completes.specs.Sends.{NothingRefused}
 use Rattle.completes.specs.Promises.{finishings}
 use Rattle.completes.proofs.Orders.{around}
-use Rattle.completes_bites.specs.Setting.{called, clients, services, last, run, turned}
-use Rattle.completes_bites.specs.Variants.{Rules, right, exchangeBy, acceptedBy, receiveBy, afterBy}
+use Rattle.completes_bites.specs.Setting.{clients, services, last, run}
+use Rattle.completes_bites.specs.Variants.{right, exchangeBy, acceptedBy, receiveBy, afterBy}
 use Rattle.completes_bites.specs.Witnesses.{Witnesses}
 use Rattle.completes_bites.proofs.Refusals.{allTaken, nothing-refused}
 

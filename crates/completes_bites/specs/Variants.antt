@@ -1,5 +1,4 @@
 -- Stores by the rules with some of them replaced, and two promises said of them, word for word.
-use Prim.Native.Nat.{ℕ}
 use mathlib.Core.Path.{_≡_}
 use mathlib.Core.Bool.{Bool, true, false, _&&_, not, cond}
 use mathlib.Core.List.{List, [], _∷_, _++_}

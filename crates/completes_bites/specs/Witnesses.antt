@@ -2,7 +2,6 @@
 use mathlib.Core.Path.{_≡_}
 use mathlib.Core.Logic.{_≢_}
 use mathlib.Core.Bool.{true, false}
-use mathlib.Core.List.{List, [], _∷_}
 use Rattle.activities.specs.Activity.{same, neither}
 use Rattle.activities.specs.Store.{emptyStore, exchangeOf}
 use Rattle.activities.specs.Receive.{sideOf, receive}

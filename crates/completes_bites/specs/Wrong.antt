@@ -1,16 +1,15 @@
 -- The promises bite: three easy ways to get the store wrong, each as a rule, by which one of them fails.
 use mathlib.Core.Bool.{Bool, true, false, _&&_, cond}
 use lib.Dec.{eqb}
-use Prim.Native.Nat.{ℕ, _+_}
+use Prim.Native.Nat.{_+_}
 use Rattle.activities.specs.Activity.{byClient}
-use Rattle.activities.specs.Side.{additions, added, sideTaken}
+use Rattle.activities.specs.Side.{additions, sideTaken}
 use Rattle.activities.specs.Complete.{complete}
 use Rattle.activities.specs.Receive.{toBoth}
 use Rattle.activities.specs.declared.Said.{Said}
 use Rattle.activities.specs.declared.Said.the-variants.{Negotiation, Invocation, Result, Finished, Additional}
 use Rattle.activities.specs.declared.Message.{Message}
 use Rattle.activities.specs.declared.Side.{Side}
-use Rattle.activities.specs.declared.Exchange.{Exchange}
 use Rattle.activities.specs.declared.Finishing.{Finishing}
 use Rattle.completes_bites.specs.Variants.{Rules, AtLastBy, RepeatsBy}
 
