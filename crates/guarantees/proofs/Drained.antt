@@ -66,14 +66,20 @@ books s room e = go (eqb (bookNo s room) 0) refl
 pub every-call : EveryCall
 every-call =
     record {
-      broken = λ m. only _;
-      empty = only _;
-      setup = λ u. only _;
       status = λ s. only _;
+      legal = λ u. only _;
+      fresh = λ u. only _;
+      empty = only _;
+      broken = λ m. only _;
+      setup = λ u. only _;
       step = λ m s. only _;
-      steps = λ m steps n. only _;
-      run = λ book room. only _;
-      buffer = λ book buffer. only _;
+      steps = λ m steps. only _;
+      answers = λ m steps. only _;
       drain = λ m. only _;
       walk = λ m k. only _;
+      run = λ book room. only _;
+      buffer = λ book buffer. only _;
+      refused = λ n. only _;
+      listing = λ m steps taken. only _;
+      any = λ d. only d;
     }

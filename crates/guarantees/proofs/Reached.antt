@@ -2,15 +2,15 @@
 -- Kept by every step, and true of a fresh machine. Assumes nothing.
 use mathlib.Core.Path.{_≡_, refl, sym, ap, _∙_, subst}
 use mathlib.Core.Logic.{_≢_}
-use mathlib.Core.Bool.{Bool, true, false, not}
+use mathlib.Core.Bool.{Bool, true, false}
 use mathlib.Core.List.{List, [], _∷_, _++_}
-use Prim.Native.Nat.{ℕ, _-_, _≤_, _<_}
+use Prim.Native.Nat.{ℕ, _+_, _-_, _≤_, _<_}
 use native.Mathlib.Omega.{arith}
 use native.Mathlib.Decide.{decLt}
 use lib.Dec.{eqb}
 use lib.ListN.{getD, set, length-set}
 use lib.Seq.{getD-set-same, getD-set-other}
-use Rattle.protocol.specs.Words.{pick, bit, one, times}
+use Rattle.protocol.specs.Words.{pick, bit, times}
 use Rattle.protocol.specs.Slots.{number, queue, standing, view, home, noView, noQueue}
 use Rattle.protocol.specs.Writes.{withRecordCopies, withAckCopies, withUpdateCopies, withUackCopies}
 use Rattle.protocol.specs.Broken.{brokenOf}
@@ -39,7 +39,10 @@ use Rattle.protocol.specs.Restart.{restarted}
 use Rattle.protocol.specs.Step.{numberOf, afterOf}
 use Rattle.protocol.specs.declared.Step.{Step}
 use Rattle.protocol.specs.declared.Step.the-variants.{Send, Receive, PreCheck, SendRecord, Timeout, TakeRecord, TakeAck, PostCheck, TakeRepair, SendUpdate, TakeUpdate, TakeUack, Expire, Lose, Crash, Restart}
+use Rattle.keeps.specs.Laws.{madeBy}
 use Rattle.keeps.proofs.Conditions.{taken-when}
+use Rattle.keeps.proofs.Laws.{made-counts}
+use Rattle.guarantees.proofs.Which.{Kind, a-send, another, kinds}
 use Rattle.guarantees.proofs.Whole.{Everywhere}
 use Rattle.guarantees.proofs.Heads.{actors8}
 use Rattle.guarantees.proofs.Rules.{Homes, here, sends, receives, pre-checks, sends-record, times-out, takes-record, takes-ack, post-checks, takes-repair, sends-update, takes-update, takes-uack, expires, loses, goes-up-or-down}
@@ -91,29 +94,13 @@ pub data Key (m : State) (s : Step) (k : ℕ) : Type 0 where
   new : (from to own word causes : ℕ) → s ≡ Send from to own word causes → k ≡ m .made → Key m s k
 
 pub key : (m : State) (s : Step) (k : ℕ) → k < afterOf m s .made → Key m s k
-unfolding sent receivedOf preChecked recordSent timedOut recordTaken ackTaken postChecked repairTaken updateSent updateTaken uackTaken expired lost crashed restarted
-key m (Send from to own word causes) k h = elim (decLt k (m .made)) [ yes l ↦ old l | no n ↦ new from to own word causes refl (omega arith) ]
-key m (Receive i) k h = old h
-key m (PreCheck a) k h = old h
-key m (SendRecord a) k h = old h
-key m (Timeout a p) k h = old h
-key m (TakeRecord p i r) k h = old h
-key m (TakeAck p i r) k h = old h
-key m (PostCheck a) k h = old h
-key m (TakeRepair i r) k h = old h
-key m (SendUpdate i r) k h = old h
-key m (TakeUpdate p i r) k h = old h
-key m (TakeUack p i r) k h = old h
-key m (Expire i r) k h = old h
-key m (Lose what p i r) k h = go (copies m what p (number i r) - 1) (eqb what 0) (eqb what 1) (eqb what 2) h
+key m s k h = go (kinds s)
   where
-    go : (n : ℕ) (x y z : Bool) → k < pick x (withRecordCopies m p (number i r) n) (pick y (withAckCopies m p (number i r) n) (pick z (withUpdateCopies m p (number i r) n) (withUackCopies m p (number i r) n))) .made → Key m (Lose what p i r) k
-    go n true y z g = old g
-    go n false true z g = old g
-    go n false false true g = old g
-    go n false false false g = old g
-key m (Crash p) k h = old h
-key m (Restart p) k h = old h
+    go : Kind s → Key m s k
+    go (a-send from to own word causes x) =
+        let g : afterOf m s .made ≡ m .made + 1 = made-counts m s ∙ ap (madeBy m) x in
+        elim (decLt k (m .made)) [ yes l ↦ old l | no n ↦ new from to own word causes x (omega arith) ]
+    go (another e) = let g : afterOf m s .made ≡ m .made = made-counts m s ∙ rw e in old (omega arith)
 
 module _ (m : State) (c : Reached m) where
   u : Unbroken m
