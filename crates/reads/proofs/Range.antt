@@ -1,14 +1,14 @@
--- Within range is written as bytes, and what is read from bytes is within range. Assumes nothing.
+-- Within range is written as bytes, what is read from bytes is within range, and a book is short. Assumes nothing.
 use Prim.Native.Nat.{ℕ, zero, suc, _+_, _*_, _/_, _%_, _≤_, _<_}
 use mathlib.Core.Path.{_≡_, refl, sym, ap, subst, _∙_}
 use mathlib.Core.Logic.{⊎-elim}
-use mathlib.Core.Bool.{true}
+use mathlib.Core.Bool.{true, false, false≢true}
 use mathlib.Core.List.{List, [], _∷_, _++_, map, List·Memᴰ, List·Memᴰ·head, List·Memᴰ·tail, List·Memᴰ·not-nil, List·Memᴰ·cases-cons}
 use native.Mathlib.Omega.{arith}
 use lib.Dec.{leb, ltb}
 use lib.ListN.{length, getD}
 use lib.Pow.{areBytes}
-use borrow.Author.Tests.{lt-ltb, leb-true, ltb-true}
+use borrow.Author.Tests.{lt-ltb, leb-true, ltb-true, eqb-true}
 use Rattle.protocol.specs.Words.{table}
 use Rattle.protocol.specs.declared.Step.{Step}
 use Rattle.protocol.specs.declared.Step.the-variants.{Send, Receive, PreCheck, SendRecord, Timeout, TakeRecord, TakeAck, PostCheck, TakeRepair, SendUpdate, TakeUpdate, TakeUack, Expire, Lose, Crash, Restart}
@@ -18,10 +18,11 @@ use Rattle.protocol.specs.Book.{Reading, byte, widthOf, readStep, onRead, valid
 use Rattle.protocol.specs.Write.{written, writtenSteps, writtenRows, writtenBook}
 use Rattle.unbroken.proofs.Laws.Tests.{and-left, and-right, and-both}
 use Rattle.unbroken.proofs.Laws.Every.{length-table}
-use Rattle.reads.proofs.Formed.{count-steps}
+use Rattle.reads.proofs.Formed.{valid-all, count-steps}
+use Rattle.reads.proofs.Reading.{width-low}
 use Rattle.reads.proofs.Again.{byte-low, from, Found, found, step-same}
 use Rattle.keeps.specs.Applies.{Thing, valueOf, named}
-use Rattle.reads.specs.Reading.{StepInRange, InRange}
+use Rattle.reads.specs.Reading.{StepInRange, InRange, BookIsShort}
 
 -- bytes, by their numbers
 abbrev Low : List ℕ → Type 0
@@ -165,18 +166,36 @@ module _ (s : List ℕ) (bs : areBytes s ≡ true) where
   all-range zero at x h = absurd (List·Memᴰ·not-nil h)
   all-range (suc n) at x h = on-range n at (readStep s at) refl (all-range n) x h
 
+  few-steps : wellFormed s ≡ true → countOf s ≤ 4096
+  unfolding wellFormed
+  few-steps v = leb-true (countOf s) 4096 (and-right (leb (startOf s) (length s)) (leb (countOf s) 4096) (and-left _ (validFrom s (countOf s) (startOf s)) v))
+
   pub read-range : wellFormed s ≡ true → InRange (readingOf s)
-  unfolding readingOf wellFormed
+  unfolding readingOf
   read-range v =
       let h = length-table (homeRead s) (actorsRead s) in
       let l = length-table (listRead s) (actorsRead s) in
-      let few : countOf s ≤ 4096 = leb-true (countOf s) 4096 (and-right (leb (startOf s) (length s)) (leb (countOf s) 4096) (and-left _ (validFrom s (countOf s) (startOf s)) v)) in
       record {
         stores = byte-low s bs 0;
         actors = omega (arith, byte-low s bs 1);
         rows = l ∙ sym h;
         homes = table-bytes (homeRead s) (actorsRead s) (λ a. byte-low s bs (2 + 2 * a));
         lists = table-bytes (listRead s) (actorsRead s) (λ a. byte-low s bs (3 + 2 * a));
-        few = omega (arith, count-steps s v);
+        few = omega (arith, count-steps s v, few-steps v);
         steps = all-range (countOf s) (startOf s);
       }
+
+-- a step takes ten bytes at most
+on-short : (s : List ℕ) (n at : ℕ) (r : Read) → readStep s at ≡ r → ((p : ℕ) → validFrom s n p ≡ true → length s ≤ p + 10 * n) → onRead r false (λ step p. validFrom s n p) ≡ true
+    → length s ≤ at + 10 * suc n
+on-short s n at Bad e f v = absurd (false≢true v)
+on-short s n at (Got step p) e f v = let h : Found s at step p = found s at step p e in omega (arith, f p v, h .next, width-low (byte s at))
+
+valid-short : (s : List ℕ) (n at : ℕ) → validFrom s n at ≡ true → length s ≤ at + 10 * n
+unfolding validFrom
+valid-short s zero at v = omega (arith, eqb-true at (length s) v)
+valid-short s (suc n) at v = on-short s n at (readStep s at) refl (valid-short s n) v
+
+pub book-is-short : BookIsShort
+unfolding startOf
+book-is-short s bs v = omega (arith, valid-short s (countOf s) (startOf s) (valid-all s v), few-steps s bs v, byte-low s bs 1)

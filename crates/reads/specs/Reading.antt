@@ -57,3 +57,7 @@ ReadAsItself = (b : Reading) → InRange b → Itself b
 -- so a book is well-formed exactly if it has the bytes of a reading within range
 abbrev pub FormedExactly : Type 0
 FormedExactly = (s : List ℕ) → areBytes s ≡ true → (wellFormed s ≡ true) ↔ IsBook s
+
+-- no well-formed book is longer than 41,474 bytes: 255 actors and 4,096 sends
+abbrev pub BookIsShort : Type 0
+BookIsShort = (s : List ℕ) → areBytes s ≡ true → wellFormed s ≡ true → length s ≤ 41474

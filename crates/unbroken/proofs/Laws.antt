@@ -12,6 +12,7 @@ pub mod Counting
 pub mod Room
 pub mod Bits
 pub mod Fresh
+pub mod Empty
 pub mod Only
 pub use Whole.{slots, slots-whole}
 pub use Unbroken.{unbroken, whole, of-slots, to-slots}
