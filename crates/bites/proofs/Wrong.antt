@@ -31,10 +31,11 @@ use Rattle.protocol.specs.Restart.{restartNo, restarted}
 use Rattle.protocol.specs.declared.Step.{Step}
 use Rattle.protocol.specs.declared.Step.the-variants.{TakeAck}
 use Rattle.protocol.specs.Run.{ran, freshOf}
+use Rattle.guarantees.specs.Acknowledged.{acceptedInto}
 use Rattle.guarantees.proofs.Demand.{cause-links, view-links}
 use Rattle.bites.specs.Setting.{M}
 use Rattle.bites.specs.Witnesses.{movedReceipt}
-use Rattle.bites.specs.Variants.{Rules, right, runBy, acceptedInto, acceptedBy, AckedIn, CauseLinksBy, ViewLinksBy}
+use Rattle.bites.specs.Variants.{Rules, right, runBy, acceptedBy, AckedIn, CauseLinksBy, ViewLinksBy}
 use Rattle.bites.specs.Wrong.{overwritten, overwriting, lateRecord, finishedEarly, finishing, replacedDestination, oneRedirected, leaving, secondRepair, unchecked, sendingOnly, acceptedLate, accepting, leftStore, BreaksViewLinks, BreaksCauseLinks, Bites}
 use Rattle.bites.proofs.Ruled.{ruled, ranRuled, ackedRuled, wholeAlong, step-ruled, ran-ruled, acked-ruled}
 use Rattle.bites.proofs.Right.{ran-right, accepted-right, acknowledged-right}

@@ -11,22 +11,28 @@ use Rattle.protocol.specs.Broken.{brokenOf}
 use Rattle.unbroken.specs.Unbroken.{Unbroken}
 use Rattle.unbroken.specs.Bounds.{Bounds}
 use Rattle.unbroken.specs.Blank.{Blank}
+use Rattle.unbroken.specs.Applies.{SetupRefusals, RefusedSetup}
 use Rattle.keeps.specs.Keeps.{Keeps, StepKeeps, RefusalGivesBack}
 use Rattle.keeps.specs.Laws.{TakenExactly, TakenGives, RefusedGives, BrokenGives, AnswerZero, JointSame}
 use Rattle.keeps.specs.Laws.{MadeCounts, SendsNewKey, SendWritesLinks, ReceiveWritesLink, StoreWritesLinks}
 use Rattle.keeps.specs.Laws.{Program, RefuserOut, ConstantOut, PretenderOut, ResultsDiffer}
 use Rattle.keeps.specs.Laws.{OneResult as OneStep}
 use Rattle.keeps.specs.Onward.{StepOnward, ClosedSays, ClosedStays}
-use Rattle.reads.specs.Reading.{ReadsAlike, WritesAgain, OneReading}
-use Rattle.reads.specs.Run.{RunFolds, AnswersFold, BehindStay, RefusalWritesNothing, TakenAreZeros, ExampleRuns, IdleShutOut}
+use Rattle.keeps.specs.Applies.{StepRefusals}
+use Rattle.reads.specs.Reading.{ReadsAlike, WritesAgain, OneReading, ReadAsItself, FormedExactly}
+use Rattle.reads.specs.Run.{RunFolds, AnswersFold, BehindStay, RefusedBook, TakenAreZeros, ExampleRuns, IdleShutOut}
 use Rattle.reads.specs.Run.{OneResult as OneRun}
+use Rattle.reads.specs.Applies.{BookRefusals, MalformedExactly}
 use Rattle.drains.specs.Drains.{TakesEachStep, DrainEnds, DrainsOnce, CountIsFew}
+use Rattle.drains.specs.Applies.{DrainRefusals, RefusedDrain}
 use Rattle.reaches.specs.Reaches.{AnsweredReaches, KeysFew, RefusedEmpty}
 use Rattle.reaches.specs.Reaches.{OneResult as OneWalk}
+use Rattle.reaches.specs.Applies.{WalkRefusals, KeysLookedUp}
 use Rattle.marked.specs.Marked.{Claim}
-use Rattle.guarantees.specs.Guarantees.{OneAcknowledgement, KeptForEver, CauseLinks, StaysClosed, ViewLinks, TheDrain, TheWalk, Books, EveryCall}
-use Rattle.bites.specs.Witnesses.{Witnesses}
+use Rattle.guarantees.specs.Guarantees.{OneAcknowledgement, KeptForEver, AsSent, CauseLinks, StaysClosed, ViewLinks, Lookup, TheDrain, Recovery, TheWalk, EveryWalk, Books, EveryCall}
+use Rattle.bites.specs.Witnesses.{Witnesses, BoundMet}
 use Rattle.bites.specs.Wrong.{Bites}
+use Rattle.bites.specs.Further.{BitesFurther}
 
 pub record Demands : Type 0 where
   -- 1. Every call ends and answers, for every machine value, step and run book, and no two results satisfy its promise.
@@ -34,14 +40,23 @@ pub record Demands : Type 0 where
   pub one-step : OneStep
   pub one-run : OneRun
   pub one-walk : OneWalk
-  -- Bad input is refused by the numbers of document 01: a broken value, which is one that document 01's list is about, by 1.
+  -- Bad input is refused by the numbers of document 01, the lowest that applies; a broken value, which is one that its list is
+  -- about, by 1.
+  pub setup-refusals : SetupRefusals
+  pub step-refusals : StepRefusals
+  pub book-refusals : BookRefusals
+  pub drain-refusals : DrainRefusals
+  pub walk-refusals : WalkRefusals
   pub broken-gives : BrokenGives
   pub unbroken : (m : State) → brokenOf m ≡ false → Unbroken m
   pub whole : (m : State) → Unbroken m → brokenOf m ≡ false
-  -- A refused step leaves the machine unchanged, a refused book the answer buffer, and a refused walk has no keys.
+  -- A refused step or drain leaves the machine unchanged; a refused book leaves the answer buffer and, as a refused setup, gives
+  -- the empty machine; a refused walk has no keys.
   pub refusal-gives-back : RefusalGivesBack
   pub refused-gives : RefusedGives
-  pub refusal-writes-nothing : RefusalWritesNothing
+  pub refused-drain : RefusedDrain
+  pub refused-setup : RefusedSetup
+  pub refused-book : RefusedBook
   pub refused-empty : RefusedEmpty
   -- 2. A step is taken exactly when its rule allows it, and then gives exactly the machine which that rule states.
   pub taken-exactly : TakenExactly
@@ -57,6 +72,9 @@ pub record Demands : Type 0 where
   pub reads-alike : ReadsAlike
   pub writes-again : WritesAgain
   pub one-reading : OneReading
+  pub read-as-itself : ReadAsItself
+  pub formed-exactly : FormedExactly
+  pub malformed-exactly : MalformedExactly
   pub run-folds : RunFolds
   pub answers-fold : AnswersFold
   pub behind-stay : BehindStay
@@ -72,15 +90,21 @@ pub record Demands : Type 0 where
   -- 3. From a legal setup, after any steps with losses, timeouts and crashes: the guarantees, in their order.
   pub one-acknowledgement : OneAcknowledgement
   pub kept-for-ever : KeptForEver
+  pub as-sent : AsSent
   pub cause-links : CauseLinks
   pub stays-closed-for-ever : StaysClosed
   pub view-links : ViewLinks
+  pub lookup : Lookup
   pub the-drain : TheDrain
+  pub recovery : Recovery
   pub the-walk : TheWalk
+  pub every-walk : EveryWalk
   pub books : Books
   -- They are neither empty nor blind.
   pub witnesses : Witnesses
   pub bites : Bites
+  pub bites-further : BitesFurther
+  pub bound-met : BoundMet
   -- What they stand on, for any unbroken machine: a legal setup's and the empty one are unbroken, and no step breaks one.
   pub fresh-unbroken : (stores actors : ℕ) (homes lists : List ℕ) → legal stores actors homes lists ≡ true → length homes ≡ 8 → length lists ≡ 8 → brokenOf (freshWith stores actors homes lists) ≡ false
   pub empty-unbroken : brokenOf emptyMachine ≡ false
@@ -98,3 +122,4 @@ pub record Demands : Type 0 where
   pub count-few : CountIsFew
   pub answered-reaches : AnsweredReaches
   pub keys-few : KeysFew
+  pub keys-looked-up : KeysLookedUp

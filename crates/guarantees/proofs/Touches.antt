@@ -9,7 +9,7 @@ use lib.Dec.{eqb}
 use lib.ListN.{set, length-set}
 use lib.Seq.{getD-set-same, getD-set-other}
 use Rattle.protocol.specs.Words.{pick, one}
-use Rattle.protocol.specs.Slots.{number, place, view, repair, entry, contents, viewlink, ackCopies, noView, noRepair, noEntry, noContents}
+use Rattle.protocol.specs.Slots.{number, place, view, repair, entry, contents, ackCopies, noView, noRepair, noEntry, noContents}
 use Rattle.protocol.specs.Writes.{withView, withRepair, withEntry, withEntries, withAckCopies, withUpdateCopies, withUackCopies, withContentsAt, withViewlink}
 use Rattle.unbroken.specs.EverySlot.{Sized}
 use Rattle.protocol.specs.declared.State.{State}

@@ -24,6 +24,7 @@ pub mod Lose
 pub mod Crash
 pub mod Restart
 pub mod Step
+pub mod Kinds
 pub mod Steps
 pub mod Book
 pub mod Write
