@@ -10,7 +10,7 @@ use Rattle.protocol.specs.Setup.{legal, freshWith, emptyMachine}
 use Rattle.protocol.specs.Broken.{brokenOf}
 use Rattle.unbroken.specs.Unbroken.{Unbroken}
 use Rattle.unbroken.specs.Bounds.{Bounds}
-use Rattle.unbroken.specs.Blank.{Blank}
+use Rattle.unbroken.specs.Blank.{Blank, OneEmpty}
 use Rattle.unbroken.specs.Applies.{SetupRefusals, RefusedSetup}
 use Rattle.keeps.specs.Keeps.{Keeps, StepKeeps, RefusalGivesBack}
 use Rattle.keeps.specs.Laws.{TakenExactly, TakenGives, RefusedGives, BrokenGives, AnswerZero, JointSame}
@@ -19,7 +19,7 @@ use Rattle.keeps.specs.Laws.{Program, RefuserOut, ConstantOut, PretenderOut, Re
 use Rattle.keeps.specs.Laws.{OneResult as OneStep}
 use Rattle.keeps.specs.Onward.{StepOnward, ClosedSays, ClosedStays}
 use Rattle.keeps.specs.Applies.{StepRefusals}
-use Rattle.reads.specs.Reading.{ReadsAlike, WritesAgain, OneReading, ReadAsItself, FormedExactly}
+use Rattle.reads.specs.Reading.{ReadsAlike, WritesAgain, OneReading, ReadAsItself, FormedExactly, BookIsShort}
 use Rattle.reads.specs.Run.{RunFolds, AnswersFold, BehindStay, RefusedBook, TakenAreZeros, ExampleRuns, IdleShutOut}
 use Rattle.reads.specs.Run.{OneResult as OneRun}
 use Rattle.reads.specs.Applies.{BookRefusals, MalformedExactly}
@@ -75,6 +75,7 @@ pub record Demands : Type 0 where
   pub read-as-itself : ReadAsItself
   pub formed-exactly : FormedExactly
   pub malformed-exactly : MalformedExactly
+  pub book-is-short : BookIsShort
   pub run-folds : RunFolds
   pub answers-fold : AnswersFold
   pub behind-stay : BehindStay
@@ -108,6 +109,7 @@ pub record Demands : Type 0 where
   -- What they stand on, for any unbroken machine: a legal setup's and the empty one are unbroken, and no step breaks one.
   pub fresh-unbroken : (stores actors : ℕ) (homes lists : List ℕ) → legal stores actors homes lists ≡ true → length homes ≡ 8 → length lists ≡ 8 → brokenOf (freshWith stores actors homes lists) ≡ false
   pub empty-unbroken : brokenOf emptyMachine ≡ false
+  pub one-empty : OneEmpty
   pub fresh-blank : (stores actors : ℕ) (homes lists : List ℕ) → Blank (freshWith stores actors homes lists)
   pub bounds : (m : State) → brokenOf m ≡ false → Bounds m
   pub keeps : Keeps

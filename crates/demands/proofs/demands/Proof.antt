@@ -1,5 +1,6 @@
 -- `demands::demands` meets its contract: each statement from its theorem. Assumes nothing.
 use Rattle.unbroken.proofs.Laws.Applies.{setup-refusals, refused-setup}
+use Rattle.unbroken.proofs.Laws.Empty.{one-empty}
 use Rattle.unbroken.proofs.Laws.Fresh.{fresh-unbroken, empty-unbroken, fresh-blank}
 use Rattle.unbroken.proofs.Laws.Room.{bounds}
 use Rattle.unbroken.proofs.Laws.Unbroken.{unbroken, whole}
@@ -12,6 +13,7 @@ use Rattle.reads.proofs.Applies.{book-refusals, malformed-exactly}
 use Rattle.reads.proofs.Both.{read-as-itself, formed-exactly}
 use Rattle.reads.proofs.Example.{idle-shut-out, example-runs}
 use Rattle.reads.proofs.Fold.{one-result as one-run, refused-book, run-folds, answers-fold, behind-stay, taken-are-zeros}
+use Rattle.reads.proofs.Range.{book-is-short}
 use Rattle.drains.proofs.Applies.{drain-refusals, refused-drain}
 use Rattle.drains.proofs.Courses.{takes, drain-ends, drains-once, count-few}
 use Rattle.reaches.proofs.Applies.{walk-refusals, keys-looked-up}
@@ -66,6 +68,7 @@ demanded =
       read-as-itself = read-as-itself;
       formed-exactly = formed-exactly;
       malformed-exactly = malformed-exactly;
+      book-is-short = book-is-short;
       run-folds = run-folds;
       answers-fold = answers-fold;
       behind-stay = behind-stay;
@@ -95,6 +98,7 @@ demanded =
       bound-met = bound-met;
       fresh-unbroken = fresh-unbroken;
       empty-unbroken = empty-unbroken;
+      one-empty = one-empty;
       fresh-blank = fresh-blank;
       bounds = bounds;
       keeps = keeps;
