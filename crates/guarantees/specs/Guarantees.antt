@@ -206,7 +206,7 @@ Books = (book : List ℕ) (room : ℕ) → runOf book room .answer ≡ 0 → Boo
 abbrev pub Determined : {A : Type 0} → A → Type 0
 Determined {A} d = (x y : A) → x ≡ d → y ≡ d → x ≡ y
 
-pub record EveryCall : Type 1 where
+pub record EveryCall : Type 0 where
   pub status : (s : Status) → Determined (statusNumber s)
   pub legal : (u : Setup) → Determined (legalSetup u)
   pub fresh : (u : Setup) → Determined (freshOf u)
@@ -222,5 +222,7 @@ pub record EveryCall : Type 1 where
   pub buffer : (book buffer : List ℕ) → Determined (bufferOf book buffer)
   pub refused : (n : ℕ) → Determined (refusedLine n)
   pub listing : (m : State) (steps taken : ℕ) → Determined (listingOf m steps taken)
-  -- whatever is defined above this crate: look_back, tautlichen, bench
-  pub any : {A : Type 0} (d : A) → Determined d
+
+-- .. and whatever is defined above this crate: look_back, tautlichen, bench
+abbrev pub AnyCall : Type 1
+AnyCall = (A : Type 0) (d : A) → Determined d
