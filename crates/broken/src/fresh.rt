@@ -8,14 +8,14 @@ use protocol::Queue;
 use protocol::Repair;
 use protocol::State;
 use protocol::Status;
-use protocol::View;
+use protocol::unset_view;
 ghost use mathlib.Core.Path.{_≡_};
 ghost use mathlib.Core.Bool.{_||_};
 ghost use Prim.Native.Nat.{_≤_};
 ghost use lib.Dec.{leb, ltb};
 ghost use Rattle.protocol.specs.Words.{pick, table};
 ghost use Rattle.protocol.specs.Slots.{noMessage, noRepair, noEntry, noContents};
-ghost use Rattle.protocol.specs.Setup.{storesIn, legalActor, legalActors, legal, blankView, blankQueue, ofActors, freshWith, emptyMachine};
+ghost use Rattle.protocol.specs.Setup.{storesIn, legalActor, legalActors, legal, blankQueue, ofActors, freshWith, emptyMachine};
 
 // How many stores a list has.
 fn stores_in(list: u8) -> u8
@@ -136,21 +136,6 @@ fn blank_queue() -> Queue
     }
 }
 
-fn blank_view() -> View
-    ensures { λ r. ⌜ r ≡ blankView ⌝ }
-{
-    View {
-        actor: 0,
-        phase: 0,
-        store: 0,
-        viewlink: 0,
-        changed: false,
-        causes: 0,
-        word: 0,
-        links: [0; 16],
-    }
-}
-
 fn no_message() -> Message
     ensures { λ r. ⌜ r ≡ noMessage ⌝ }
 {
@@ -197,7 +182,7 @@ pub fn fresh(stores: u8, actors: u8, homes: [u8; 8], lists: [u8; 8]) -> State
 {
     let queue = blank_queue();
     let message = no_message();
-    let view = blank_view();
+    let view = unset_view(0);
     let repair = no_repair();
     let entry = no_entry();
     let contents = no_contents();

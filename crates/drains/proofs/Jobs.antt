@@ -16,7 +16,8 @@ use Rattle.unbroken.specs.Unbroken.{Unbroken}
 use Rattle.protocol.specs.declared.State.{State}
 use Rattle.protocol.specs.declared.View.{View}
 use Rattle.protocol.specs.declared.Repair.{Repair}
-use Rattle.protocol.specs.Rule.{head, phased, more}
+use Rattle.protocol.specs.Views.{phased}
+use Rattle.protocol.specs.Rule.{head, more}
 use Rattle.protocol.specs.Receive.{receiveNo, receivedOf, receivedView}
 use Rattle.protocol.specs.PreCheck.{preCheckNo, preChecked, checkedView}
 use Rattle.protocol.specs.SendRecord.{sendRecordNo, recordSent}
@@ -128,7 +129,7 @@ receive-good m w k hk h =
     let hv : number k 1 < m .made * 2 = omega arith in
     let x = receivedView m k in
     let s = me m w v hv in
-    let before : s ≡ seen 0 false (s .repair) (s .status) (s .ack) (s .sent) (s .uack) (s .update) = rw (h, w .changedUnset v (in32 m w hv) h) in
+    let before : s ≡ seen 0 false (s .repair) (s .status) (s .ack) (s .sent) (s .uack) (s .update) = rw (h, ap (λ (y : View). y .changed) (w .viewUnset v (in32 m w hv) h)) in
     record {
       taken = rw (lt-leb (m .made) k hk, eq-eqb (view m v .phase) 0 h);
       lower = total-falls m (receivedOf m k) refl v hv _ _ before (seen-view m w v hv x) (view-far m w v hv x)

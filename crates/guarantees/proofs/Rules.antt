@@ -22,7 +22,8 @@ use Rattle.protocol.specs.declared.Status.the-variants.{ToSend, Waiting, Done}
 use Rattle.protocol.specs.declared.Contents.{Contents}
 use Rattle.protocol.specs.declared.Links.{Links}
 use Rattle.protocol.specs.declared.Queue.{Queue}
-use Rattle.protocol.specs.Rule.{head, headView, phased, more}
+use Rattle.protocol.specs.Views.{phased}
+use Rattle.protocol.specs.Rule.{head, headView, more}
 use Rattle.protocol.specs.Send.{sendNo, sent, sentView, awaitedView}
 use Rattle.protocol.specs.Receive.{receiveNo, receivedOf, receivedView}
 use Rattle.protocol.specs.PreCheck.{preCheckNo, preChecked, checkedView}

@@ -22,7 +22,8 @@ use Rattle.protocol.specs.declared.Status.the-variants.{ToSend, Waiting, Done}
 use Rattle.unbroken.proofs.Laws.{slots}
 use Rattle.unbroken.proofs.Laws.Tests.{and-left, and-right}
 use Rattle.unbroken.proofs.Laws.Says.{eq-says, zero-splits, not-says, and-says}
-use Rattle.protocol.specs.Rule.{head, headView, phased, more}
+use Rattle.protocol.specs.Views.{phased}
+use Rattle.protocol.specs.Rule.{head, headView, more}
 use Rattle.protocol.specs.SendUpdate.{inStatus, updateSent}
 use Rattle.protocol.specs.TakeUack.{finishedEntry, uackTaken}
 use Rattle.protocol.specs.TakeUpdate.{updateTaken}

@@ -23,7 +23,8 @@ use Rattle.protocol.specs.Closed.{restsOf, closedOf}
 use Rattle.unbroken.proofs.Laws.{slots}
 use Rattle.unbroken.proofs.Laws.Room.{made-view}
 use Rattle.unbroken.proofs.Laws.Says.{Says, eq-says, eq-splits, is-splits, zero-splits, and-says, not-says, put-says}
-use Rattle.protocol.specs.Rule.{head, headView, phased}
+use Rattle.protocol.specs.Views.{phased}
+use Rattle.protocol.specs.Rule.{head, headView}
 use Rattle.protocol.specs.Send.{sentView, awaitedView, sent}
 use Rattle.protocol.specs.Receive.{receivedView, receivedOf}
 use Rattle.protocol.specs.TakeRecord.{writtenContents, writtenLinks}

@@ -5,11 +5,11 @@ use mathlib.Core.List.{List}
 use lib.ListN.{getD, replicate}
 use lib.Dec.{ltb, leb, eqb}
 use Rattle.protocol.specs.Words.{pick, bit, all, table}
+use Rattle.protocol.specs.Views.{blankView}
 use Rattle.protocol.specs.Slots.{noContents, noMessage, noRepair, noEntry}
 use Rattle.protocol.specs.declared.State.{State}
 use Rattle.protocol.specs.declared.Setup.{Setup}
 use Rattle.protocol.specs.Outcome.{Outcome}
-use Rattle.protocol.specs.declared.View.{View}
 use Rattle.protocol.specs.declared.Queue.{Queue}
 use Rattle.protocol.specs.declared.Links.{Links}
 
@@ -31,9 +31,6 @@ legal stores actors homes lists =
     leb 2 stores && leb stores 8 && leb 2 actors && leb actors 8 && legalActors stores actors homes lists
 
 -- a slot with nothing in it: zeros and nothings
-abbrev pub blankView : View
-blankView = record { actor = 0; phase = 0; store = 0; viewlink = 0; changed = false; causes = 0; word = 0; links = replicate 16 0 }
-
 abbrev pub blankQueue : Queue
 blankQueue = record { len = 0; views = replicate 16 0 }
 

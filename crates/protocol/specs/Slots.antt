@@ -13,6 +13,7 @@ use Rattle.protocol.specs.declared.Repair.{Repair}
 use Rattle.protocol.specs.declared.Entry.{Entry}
 use Rattle.protocol.specs.declared.Status.the-variants.{Nothing}
 pub use Rattle.protocol.specs.Numbers.{statusNumber}
+pub use Rattle.protocol.specs.Views.{noView}
 
 -- the number of a view: role 0 the sender's, role 1 the receiver's
 abbrev pub number : ℕ → ℕ → ℕ
@@ -26,9 +27,6 @@ abbrev pub linksPlace : ℕ → ℕ → ℕ
 linksPlace store key = store * 16 + key
 
 -- what a read past the slots gives
-abbrev pub noView : View
-noView = record { actor = 0; phase = 0; store = 0; viewlink = 0; changed = false; causes = 0; word = 0; links = [] }
-
 abbrev pub noQueue : Queue
 noQueue = record { len = 0; views = [] }
 

@@ -1,9 +1,10 @@
-// The types of document 01, and no function: the machine's value, a step, and what the calls hand back.
+// The types of document 01: the machine's value, a step, and what the calls hand back.
 //
 // A view's number is key * 2 + role; a place is store * 32 + view's number.
 
 ghost use mathlib.Core.Path.{_≡_};
 ghost use Rattle.protocol.specs.Numbers.{statusNumber};
+ghost use Rattle.protocol.specs.Views.{unsetView};
 
 // A view's record at its actor. In phase 0 only the actor is set.
 pub struct View {
@@ -17,6 +18,23 @@ pub struct View {
     pub causes: u16,
     pub word: u32,
     pub links: [u8; 16],
+}
+
+// Just the actor is set.
+pub fn unset_view(actor: u8) -> View
+    ensures { λ r. ⌜ r ≡ unsetView actor ⌝ }
+{
+    let links = [0u8; 16];
+    View {
+        actor,
+        phase: 0,
+        store: 0,
+        viewlink: 0,
+        changed: false,
+        causes: 0,
+        word: 0,
+        links,
+    }
 }
 
 // An actor's queue: views' numbers, oldest first.

@@ -5,7 +5,8 @@ use mathlib.Core.Path.{_≡_}
 use lib.ListN.{getD, set}
 use Rattle.protocol.specs.Words.{pick, table}
 use Rattle.protocol.specs.Slots.{number, place, linksPlace, home, list, queue, message, view, repair, entry, isUp, recordCopies, ackCopies, updateCopies, uackCopies, contents, viewlink, noLinks}
-use Rattle.protocol.specs.Setup.{answered, blankView}
+use Rattle.protocol.specs.Views.{blankView}
+use Rattle.protocol.specs.Setup.{answered}
 use Rattle.protocol.specs.declared.State.{State}
 use Rattle.protocol.specs.declared.View.{View}
 use Rattle.protocol.specs.Outcome.{Outcome}

@@ -2,3 +2,4 @@ pub mod Fill
 pub mod Laws
 pub mod Pass
 pub mod Tests
+pub mod Writers

@@ -5,7 +5,8 @@ use lib.Dec.{ltb}
 use lib.ListN.{replicate}
 use Rattle.protocol.specs.Slots.{noMessage, noRepair, noEntry, noContents, isUp, queue, message, view, repair, entry}
 use Rattle.protocol.specs.Slots.{recordCopies, ackCopies, updateCopies, uackCopies, contents, causeLinks, viewlink}
-use Rattle.protocol.specs.Setup.{blankView, blankQueue}
+use Rattle.protocol.specs.Views.{blankView}
+use Rattle.protocol.specs.Setup.{blankQueue}
 use Rattle.protocol.specs.declared.State.{State}
 
 pub record Blank (m : State) : Type 0 where

@@ -8,6 +8,7 @@ use lib.ListN.{length, getD}
 use Rattle.protocol.specs.Words.{bit, times}
 use Rattle.protocol.specs.Slots.{number, noView, statusNumber, home, list, isUp, queue, standing, message, view, repair, entry}
 use Rattle.protocol.specs.Slots.{recordCopies, ackCopies, updateCopies, uackCopies, contents, causeLinks, viewlink}
+use Rattle.protocol.specs.Views.{unsetView, relinked}
 use Rattle.protocol.specs.Setup.{storesIn}
 use Rattle.protocol.specs.declared.State.{State}
 use Rattle.protocol.specs.declared.View.{View}
@@ -55,6 +56,10 @@ pub data SetupKind (stores actors : ℕ) (homes lists : List ℕ) : Type 0 where
   none : stores ≡ 0 → actors ≡ 0 → SetupKind stores actors homes lists
   some : LegalSetup stores actors homes lists → SetupKind stores actors homes lists
 
+-- just the actor is set (the links are blank where no causes are)
+abbrev pub Unset : View → Type 0
+Unset w = w ≡ relinked (w .links) (unsetView (w .actor))
+
 -- the view v; `sender` is the actor of the view before it, which is the sender's where v is a receiver's
 pub record ViewSlot (stores actors made sender v : ℕ) (w : View) : Type 0 where
   pub linksLong : length (w .links) ≡ 16
@@ -63,11 +68,7 @@ pub record ViewSlot (stores actors made sender v : ℕ) (w : View) : Type 0 wher
   pub linkBlank : (j : ℕ) → j < 16 → bit (w .causes) j ≡ false → getD (w .links) j 0 ≡ 0
   pub storeIn : 1 ≤ w .phase → w .store < stores
   pub viewlinkIn : 1 ≤ w .phase → w .viewlink < stores
-  pub storeUnset : w .phase ≡ 0 → w .store ≡ 0
-  pub viewlinkUnset : w .phase ≡ 0 → w .viewlink ≡ 0
-  pub changedUnset : w .phase ≡ 0 → w .changed ≡ false
-  pub causesUnset : w .phase ≡ 0 → w .causes ≡ 0
-  pub wordUnset : w .phase ≡ 0 → w .word ≡ 0
+  pub unset : w .phase ≡ 0 → Unset w
   pub actorIn : v < made * 2 → w .actor < actors
   pub phase5 : v < made * 2 → w .phase ≤ 5
   pub senderMade : v < made * 2 → v % 2 ≡ 0 → 1 ≤ w .phase

@@ -7,7 +7,7 @@ use lib.ListN.{length, getD}
 use Rattle.protocol.specs.Words.{bit, times}
 use Rattle.protocol.specs.Slots.{number, statusNumber, home, list, isUp, queue, standing, message, view, repair, entry}
 use Rattle.protocol.specs.Slots.{recordCopies, ackCopies, updateCopies, uackCopies, contents, causeLinks, viewlink}
-use Rattle.unbroken.specs.EverySlot.{Sized, SetupKind}
+use Rattle.unbroken.specs.EverySlot.{Sized, SetupKind, Unset}
 use Rattle.protocol.specs.declared.State.{State}
 
 pub record Unbroken (m : State) : Type 0 where
@@ -28,11 +28,7 @@ pub record Unbroken (m : State) : Type 0 where
   -- .. phase 0 is for receivers only, and there just the actor is set; a receiver has no causes
   pub senderMade : (k : ℕ) → k < m .made → 1 ≤ view m (number k 0) .phase
   pub receiverCauses : (k : ℕ) → k < m .made → view m (number k 1) .causes ≡ 0
-  pub storeUnset : (v : ℕ) → v < 32 → view m v .phase ≡ 0 → view m v .store ≡ 0
-  pub viewlinkUnset : (v : ℕ) → v < 32 → view m v .phase ≡ 0 → view m v .viewlink ≡ 0
-  pub changedUnset : (v : ℕ) → v < 32 → view m v .phase ≡ 0 → view m v .changed ≡ false
-  pub causesUnset : (v : ℕ) → v < 32 → view m v .phase ≡ 0 → view m v .causes ≡ 0
-  pub wordUnset : (v : ℕ) → v < 32 → view m v .phase ≡ 0 → view m v .word ≡ 0
+  pub viewUnset : (v : ℕ) → v < 32 → view m v .phase ≡ 0 → Unset (view m v)
   -- its setup is illegal (the empty machine's aside)
   pub setup : SetupKind (m .stores) (m .actors) (m .homes) (m .lists)
   -- an unused slot isn't blank: behind the last actor, the last store, the last interaction, the end of a queue

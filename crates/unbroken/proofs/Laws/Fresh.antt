@@ -10,7 +10,8 @@ use lib.Dec.{ltb}
 use borrow.Author.Tests.{lt-ltb, le-ltb}
 use Rattle.protocol.specs.Words.{pick, table}
 use Rattle.protocol.specs.Slots.{number, place, linksPlace, noView, noQueue, noContents, noLinks, noMessage, noRepair, noEntry}
-use Rattle.protocol.specs.Setup.{blankView, blankQueue, blankLinks, ofActors, freshWith, emptyMachine, legal}
+use Rattle.protocol.specs.Views.{blankView}
+use Rattle.protocol.specs.Setup.{blankQueue, blankLinks, ofActors, freshWith, emptyMachine, legal}
 use Rattle.protocol.specs.Broken.{brokenOf}
 use Rattle.unbroken.specs.Blank.{Blank}
 use Rattle.unbroken.specs.EverySlot.{SetupKind, none, some, ViewSlot, QueueSlot, MessageSlot, RepairSlot, EntrySlot, CopySlot, ContentsSlot, LinksSlot, ViewlinkSlot, EverySlot}
@@ -50,11 +51,7 @@ blank-view stores actors sender v h =
       linkBlank = λ j b e. getD-replicate {A = ℕ} 16 j 0 0 b;
       storeIn = λ b. absurd (omega arith);
       viewlinkIn = λ b. absurd (omega arith);
-      storeUnset = λ b. refl;
-      viewlinkUnset = λ b. refl;
-      changedUnset = λ b. refl;
-      causesUnset = λ b. refl;
-      wordUnset = λ b. refl;
+      unset = λ b. refl;
       actorIn = λ b. absurd (omega arith);
       phase5 = λ b. absurd (omega arith);
       senderMade = λ b. absurd (omega arith);

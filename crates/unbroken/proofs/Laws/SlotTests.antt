@@ -1,6 +1,6 @@
 -- Each test of a slot says the facts of that slot. Assumes nothing.
 use Prim.Native.Nat.{ℕ, _*_, _-_, _/_, _%_, _^_, _≤_, _<_}
-use mathlib.Core.Path.{_≡_}
+use mathlib.Core.Path.{_≡_, ap}
 use mathlib.Core.Bool.{true, false, _&&_, _||_}
 use mathlib.Core.List.{List}
 use native.Mathlib.Omega.{arith}
@@ -9,9 +9,9 @@ use lib.Dec.{leb, eqb}
 use Rattle.protocol.specs.Words.{bit, times}
 use Rattle.protocol.specs.Slots.{number, place, noView, noQueue, noContents, statusNumber, standing}
 use Rattle.protocol.specs.Setup.{storesIn, legalActor, legalActors, legal}
-use Rattle.protocol.specs.Broken.{linkFine, linksFine, phaseFine, madeView, waits, queuedOnce, viewFine, standsFine, queueFine}
+use Rattle.protocol.specs.Broken.{linkFine, linksFine, isUnset, phaseFine, madeView, waits, queuedOnce, viewFine, standsFine, queueFine}
 use Rattle.protocol.specs.Broken.{messageFine, repairFine, entryFine, copiesFine, contentsFine, sameLinks, heldLinksFine, viewlinkFine, setupFine}
-use Rattle.unbroken.specs.EverySlot.{LegalActor, LegalSetup, SetupKind, none, some, ViewSlot, QueueSlot, MessageSlot, RepairSlot, EntrySlot, CopySlot, ContentsSlot, LinksSlot, ViewlinkSlot}
+use Rattle.unbroken.specs.EverySlot.{LegalActor, LegalSetup, SetupKind, none, some, Unset, ViewSlot, QueueSlot, MessageSlot, RepairSlot, EntrySlot, CopySlot, ContentsSlot, LinksSlot, ViewlinkSlot}
 use Rattle.protocol.specs.declared.View.{View}
 use Rattle.protocol.specs.declared.Queue.{Queue}
 use Rattle.protocol.specs.declared.Contents.{Contents}
@@ -37,17 +37,27 @@ unfolding linksFine
 links-says stores key causes l =
     and-says (eq-says (length l) 16) (all-says (linkFine stores key causes) (LinkFacts stores key causes) l 0 (link-says stores key causes))
 
+-- a view of which just the actor is set
+abbrev UnsetFacts : View → Type 0
+UnsetFacts w = ((((w .store ≡ 0) × (w .viewlink ≡ 0)) × (w .changed ≡ false)) × (w .causes ≡ 0)) × (w .word ≡ 0)
+
+unset-says : (w : View) → Says (isUnset w) (UnsetFacts w)
+unset-says w = and-says (and-says (and-says (and-says (eq-says (w .store) 0) (eq-says (w .viewlink) 0)) (not-says (is-splits (w .changed)))) (eq-says (w .causes) 0)) (eq-says (w .word) 0)
+
+unset-view : (w : View) → w .phase ≡ 0 → UnsetFacts w → Unset w
+unset-view w h x =
+    λ i. record { actor = w .actor; phase = h i; store = x .0 .0 .0 .0 i; viewlink = x .0 .0 .0 .1 i; changed = x .0 .0 .1 i; causes = x .0 .1 i; word = x .1 i; links = w .links }
+
+unset-facts : (w : View) → Unset w → UnsetFacts w
+unset-facts w e = ((((ap (λ (x : View). x .store) e, ap (λ (x : View). x .viewlink) e), ap (λ (x : View). x .changed) e), ap (λ (x : View). x .causes) e), ap (λ (x : View). x .word) e)
+
 -- a view
 abbrev PhaseFacts : ℕ → View → Type 0
-PhaseFacts stores w =
-    (w .phase ≡ 0 → ((((w .store ≡ 0) × (w .viewlink ≡ 0)) × (w .changed ≡ false)) × (w .causes ≡ 0)) × (w .word ≡ 0))
-    × (1 ≤ w .phase → (w .store < stores) × (w .viewlink < stores))
+PhaseFacts stores w = (w .phase ≡ 0 → UnsetFacts w) × (1 ≤ w .phase → (w .store < stores) × (w .viewlink < stores))
 
 phase-says : (stores : ℕ) (w : View) → Says (phaseFine stores w) (PhaseFacts stores w)
 phase-says stores w =
-    pick-says (zero-splits (w .phase))
-    (and-says (and-says (and-says (and-says (eq-says (w .store) 0) (eq-says (w .viewlink) 0)) (not-says (is-splits (w .changed)))) (eq-says (w .causes) 0)) (eq-says (w .word) 0))
-    (and-says (lt-says (w .store) stores) (lt-says (w .viewlink) stores))
+    pick-says (zero-splits (w .phase)) (unset-says w) (and-says (lt-says (w .store) stores) (lt-says (w .viewlink) stores))
 
 abbrev MadeFacts : ℕ → ℕ → ℕ → ℕ → View → Type 0
 MadeFacts actors made sender v w =
@@ -97,11 +107,7 @@ module _ (stores actors made : ℕ) (views : List View) (queues : List Queue) (v
           linkBlank = λ j h b. l .1 j (omega arith) .1 b;
           storeIn = λ h. p .1 h .0;
           viewlinkIn = λ h. p .1 h .1;
-          storeUnset = λ h. p .0 h .0 .0 .0 .0;
-          viewlinkUnset = λ h. p .0 h .0 .0 .0 .1;
-          changedUnset = λ h. p .0 h .0 .0 .1;
-          causesUnset = λ h. p .0 h .0 .1;
-          wordUnset = λ h. p .0 h .1;
+          unset = λ h. unset-view w h (p .0 h);
           actorIn = λ h. d .0 h .0 .0;
           phase5 = λ h. d .0 h .0 .1;
           senderMade = λ h r. d .0 h .1 .0 r;
@@ -121,7 +127,7 @@ module _ (stores actors made : ℕ) (views : List View) (queues : List Queue) (v
         (
           (
             (long, λ j h. (λ b. (s .causeBelow j (omega arith) b, s .linkIn j (omega arith) b), λ b. s .linkBlank j (omega arith) b)),
-            (λ h. ((((s .storeUnset h, s .viewlinkUnset h), s .changedUnset h), s .causesUnset h), s .wordUnset h), λ h. (s .storeIn h, s .viewlinkIn h)),
+            (λ h. unset-facts w (s .unset h), λ h. (s .storeIn h, s .viewlinkIn h)),
           ),
           (λ h. ((s .actorIn h, s .phase5 h), (λ r. s .senderMade h r, λ r. (s .receiverCauses h (role v r), s .twoActors h (role v r)))), λ h. (s .actorBlank h, s .phaseBlank h)),
         ),

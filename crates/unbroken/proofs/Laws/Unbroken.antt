@@ -30,11 +30,7 @@ module _ (m : State) where
         uacks15 = λ p v hp hv. s .uackAt p v hp hv .copies15;
         senderMade = λ k h. s .viewAt (number k 0) (omega arith) .senderMade (omega arith) (omega arith);
         receiverCauses = λ k h. s .viewAt (number k 1) (omega arith) .receiverCauses (omega arith) (omega arith);
-        storeUnset = λ v h. s .viewAt v h .storeUnset;
-        viewlinkUnset = λ v h. s .viewAt v h .viewlinkUnset;
-        changedUnset = λ v h. s .viewAt v h .changedUnset;
-        causesUnset = λ v h. s .viewAt v h .causesUnset;
-        wordUnset = λ v h. s .viewAt v h .wordUnset;
+        viewUnset = λ v h. s .viewAt v h .unset;
         setup = s .setup;
         homeBlank = s .homeBlank;
         listBlank = s .listBlank;
@@ -107,11 +103,7 @@ module _ (m : State) where
         linkBlank = λ j. u .linkBlank v j h;
         storeIn = u .storeIn v h;
         viewlinkIn = u .viewlinkIn v h;
-        storeUnset = u .storeUnset v h;
-        viewlinkUnset = u .viewlinkUnset v h;
-        changedUnset = u .changedUnset v h;
-        causesUnset = u .causesUnset v h;
-        wordUnset = u .wordUnset v h;
+        unset = u .viewUnset v h;
         actorIn = u .actorIn v;
         phase5 = u .phase5 v;
         senderMade = λ b e. subst (λ (n : ℕ). 1 ≤ view m n .phase) (even e) (u .senderMade k (omega arith));
