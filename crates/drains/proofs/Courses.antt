@@ -80,7 +80,7 @@ takes m s d e =
     record {
       number = l .taken;
       step = step-taken m s (d .unbroken) (l .taken);
-      drainable = record { unbroken = keeps m s (d .unbroken) (l .taken); up = rw (l .up, l .stores) (d .up) };
+      drainable = record { unbroken = keeps m s (d .unbroken) (l .taken); up = l .up ∙ d .up };
       made = l .made;
     }
 

@@ -12,6 +12,7 @@ use Rattle.protocol.specs.declared.Setup.{Setup}
 use Rattle.protocol.specs.Outcome.{Outcome}
 use Rattle.protocol.specs.declared.Queue.{Queue}
 use Rattle.protocol.specs.declared.Links.{Links}
+use Rattle.protocol.specs.declared.Store.{Store}
 
 -- how many stores a list has
 abbrev pub storesIn : ℕ → ℕ
@@ -37,6 +38,9 @@ blankQueue = record { len = 0; views = replicate 16 0 }
 abbrev pub blankLinks : Links
 blankLinks = record { to = replicate 16 0 }
 
+abbrev pub freshStore : Bool → Store
+freshStore up = record { up = up; viewlinks = replicate 32 0 }
+
 -- what an actor's row says, blank behind the last actor
 abbrev pub ofActors : ℕ → List ℕ → ℕ → ℕ
 ofActors actors l a = pick (ltb a actors) (getD l a 0) 0
@@ -51,7 +55,7 @@ freshWith stores actors homes lists =
       homes = table (ofActors actors homes) 8;
       lists = table (ofActors actors lists) 8;
       queues = replicate 8 blankQueue;
-      up = table (λ p. ltb p stores) 8;
+      shelves = table (λ p. freshStore (ltb p stores)) 8;
       messages = replicate 16 noMessage;
       views = replicate 32 blankView;
       repairs = replicate 32 noRepair;
@@ -62,7 +66,6 @@ freshWith stores actors homes lists =
       uacks = replicate 256 0;
       contents = replicate 256 noContents;
       links = replicate 128 blankLinks;
-      viewlinks = replicate 256 0;
     }
 
 -- no stores, actors or interactions

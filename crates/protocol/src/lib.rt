@@ -56,6 +56,12 @@ pub struct Links {
     pub to: [u8; 16],
 }
 
+// A store: up or down; its viewlinks by view, 0 for none and p + 1 for store p.
+pub struct Store {
+    pub up: bool,
+    pub viewlinks: [u8; 32],
+}
+
 // An application message: nothing, or the own store and data word that were sent.
 pub struct Message {
     pub flying: bool,
@@ -106,7 +112,7 @@ pub struct State {
     pub lists: [u8; 8],
     pub queues: [Queue; 8],
     // By store.
-    pub up: [bool; 8],
+    pub shelves: [Store; 8],
     // By interaction, and by view.
     pub messages: [Message; 16],
     pub views: [View; 32],
@@ -117,11 +123,9 @@ pub struct State {
     pub acks: [u8; 256],
     pub updates: [u8; 256],
     pub uacks: [u8; 256],
-    // What the stores hold, by place: contents; the cause links of senders, at store * 16 + key;
-    // and the viewlinks, 0 for none and p + 1 for store p.
+    // What the stores hold of the views' records, by place: contents; the cause links of senders, at store * 16 + key.
     pub contents: [Contents; 256],
     pub links: [Links; 128],
-    pub viewlinks: [u8; 256],
 }
 
 // What a setup is made from: rows behind the last actor are not looked at.

@@ -7,7 +7,7 @@ use native.Mathlib.Omega.{arith}
 use Rattle.protocol.specs.Words.{allFrom, table, times, allBelow}
 use Rattle.protocol.specs.Slots.{number, view}
 use Rattle.protocol.specs.Setup.{legalActor, legalActors, legal, freshWith, emptyMachine, setupOf}
-use Rattle.protocol.specs.Broken.{slotsFine, setupFine, rowsFine, upFine, linksFine, viewFine, queueFine, messageFine, repairFine, entryFine, recordsFine, updatesFine, contentsFine, sameLinks, heldLinksFine, viewlinksFine, jobsFine, placesFine, wholeOf, brokenOf}
+use Rattle.protocol.specs.Broken.{slotsFine, setupFine, rowsFine, linksFine, viewFine, queueFine, messageFine, repairFine, entryFine, recordsFine, updatesFine, contentsFine, sameLinks, heldLinksFine, viewlinksFine, storeFine, jobsFine, placesFine, wholeOf, brokenOf}
 use Rattle.protocol.specs.Send.{causesKnown, sendNo, sent}
 use Rattle.protocol.specs.Receive.{receiveNo, receivedOf}
 use Rattle.protocol.specs.Timeout.{timeoutNo, timedOut}
@@ -18,7 +18,7 @@ use Rattle.protocol.specs.Run.{ran, answers, bookNo, runOf, filled, bufferOf}
 use Rattle.reads.specs.Run.{folded, after, example, counts, viewAt, ExampleRuns, IdleShutOut}
 
 pub example-runs : ExampleRuns
-unfolding allFrom table times allBelow legalActor legalActors legal freshWith emptyMachine slotsFine setupFine rowsFine upFine linksFine viewFine queueFine messageFine repairFine entryFine recordsFine updatesFine contentsFine sameLinks heldLinksFine viewlinksFine jobsFine placesFine wholeOf brokenOf causesKnown sendNo sent receiveNo receivedOf timeoutNo timedOut ruleOf stepOf widthOf repairMade shortMade stepMade readStep validFrom stepsFrom startOf countOf wellFormed setupRead ran answers bookNo runOf filled bufferOf
+unfolding allFrom table times allBelow legalActor legalActors legal freshWith emptyMachine slotsFine setupFine rowsFine linksFine viewFine queueFine messageFine repairFine entryFine recordsFine updatesFine contentsFine sameLinks heldLinksFine viewlinksFine storeFine jobsFine placesFine wholeOf brokenOf causesKnown sendNo sent receiveNo receivedOf timeoutNo timedOut ruleOf stepOf widthOf repairMade shortMade stepMade readStep validFrom stepsFrom startOf countOf wellFormed setupRead ran answers bookNo runOf filled bufferOf
 example-runs = record { refusal = refl; total = refl; sender = refl; receiver = refl; answered = refl }
 
 -- the same of the steps and of the machines that an idle program would give
@@ -31,7 +31,7 @@ unfolding folded allFrom table legalActor legalActors legal freshWith emptyMachi
 fresh-made = refl
 
 first-phase : view (after example (Send 0 1 0 7 0 ∷ [])) (number 0 1) .phase ≡ 0
-unfolding folded allFrom table times allBelow legalActor legalActors legal freshWith emptyMachine setupOf slotsFine setupFine rowsFine upFine linksFine viewFine queueFine messageFine repairFine entryFine recordsFine updatesFine contentsFine sameLinks heldLinksFine viewlinksFine jobsFine placesFine wholeOf brokenOf causesKnown sendNo sent ruleOf stepOf setupRead
+unfolding folded allFrom table times allBelow legalActor legalActors legal freshWith emptyMachine setupOf slotsFine setupFine rowsFine linksFine viewFine queueFine messageFine repairFine entryFine recordsFine updatesFine contentsFine sameLinks heldLinksFine viewlinksFine storeFine jobsFine placesFine wholeOf brokenOf causesKnown sendNo sent ruleOf stepOf setupRead
 first-phase = refl
 
 empty-refused : runOf [] 4 .answer ≡ 10

@@ -4,9 +4,10 @@ use mathlib.Core.Path.{refl}
 use mathlib.Core.Bool.{Bool}
 use mathlib.Core.List.{List}
 use Rattle.protocol.specs.Views.{rewritten, phased, relinked}
-use Rattle.protocol.specs.Writes.{withMade, withQueues, withUp, withMessages, withViews, withRepairs, withEntries, withRecords, withAcks, withUpdates, withUacks, withContents, withLinks, withViewlinks}
+use Rattle.protocol.specs.Writes.{withMade, withQueues, withShelves, withMessages, withViews, withRepairs, withEntries, withRecords, withAcks, withUpdates, withUacks, withContents, withLinks, turned}
 use Rattle.protocol.specs.declared.State.{State}
 use Rattle.protocol.specs.declared.View.{View}
+use Rattle.protocol.specs.declared.Store.{Store}
 use Rattle.unbroken.specs.Writer.{Writer}
 
 -- of a machine
@@ -16,8 +17,8 @@ made-writer = record { reads = λ m a. refl; same = λ m. refl; last = λ m a b.
 pub queues-writer : Writer (λ (m : State). m .queues) withQueues
 queues-writer = record { reads = λ m a. refl; same = λ m. refl; last = λ m a b. refl }
 
-pub up-writer : Writer (λ (m : State). m .up) withUp
-up-writer = record { reads = λ m a. refl; same = λ m. refl; last = λ m a b. refl }
+pub shelves-writer : Writer (λ (m : State). m .shelves) withShelves
+shelves-writer = record { reads = λ m a. refl; same = λ m. refl; last = λ m a b. refl }
 
 pub messages-writer : Writer (λ (m : State). m .messages) withMessages
 messages-writer = record { reads = λ m a. refl; same = λ m. refl; last = λ m a b. refl }
@@ -49,8 +50,9 @@ contents-writer = record { reads = λ m a. refl; same = λ m. refl; last = λ m 
 pub links-writer : Writer (λ (m : State). m .links) withLinks
 links-writer = record { reads = λ m a. refl; same = λ m. refl; last = λ m a b. refl }
 
-pub viewlinks-writer : Writer (λ (m : State). m .viewlinks) withViewlinks
-viewlinks-writer = record { reads = λ m a. refl; same = λ m. refl; last = λ m a b. refl }
+-- of a store: up or down
+pub up-writer : Writer (λ (s : Store). s .up) turned
+up-writer = record { reads = λ s a. refl; same = λ s. refl; last = λ s a b. refl }
 
 -- of a view: all that a rule writes in it, its phase, its cause links
 pub view-writer : Writer {A = (ℕ × ℕ) × (Bool × List ℕ)} (λ (w : View). ((w .phase, w .store), (w .changed, w .links))) (λ w a. rewritten (a .0 .0) (a .0 .1) (a .1 .0) (a .1 .1) w)

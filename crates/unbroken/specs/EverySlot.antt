@@ -6,8 +6,8 @@ use mathlib.Core.Bool.{Bool, true, false}
 use mathlib.Core.List.{List}
 use lib.ListN.{length, getD}
 use Rattle.protocol.specs.Words.{bit, times}
-use Rattle.protocol.specs.Slots.{number, noView, statusNumber, home, list, isUp, queue, standing, message, view, repair, entry}
-use Rattle.protocol.specs.Slots.{recordCopies, ackCopies, updateCopies, uackCopies, contents, causeLinks, viewlink}
+use Rattle.protocol.specs.Slots.{number, noView, statusNumber, home, list, shelf, queue, standing, message, view, repair, entry}
+use Rattle.protocol.specs.Slots.{recordCopies, ackCopies, updateCopies, uackCopies, contents, causeLinks}
 use Rattle.protocol.specs.Views.{unsetView, relinked}
 use Rattle.protocol.specs.Setup.{storesIn}
 use Rattle.protocol.specs.declared.State.{State}
@@ -17,13 +17,14 @@ use Rattle.protocol.specs.declared.Contents.{Contents}
 use Rattle.protocol.specs.declared.Message.{Message}
 use Rattle.protocol.specs.declared.Repair.{Repair}
 use Rattle.protocol.specs.declared.Entry.{Entry}
+use Rattle.protocol.specs.declared.Store.{Store}
 
 -- every slot is there
 pub record Sized (m : State) : Type 0 where
   pub homes : length (m .homes) ≡ 8
   pub lists : length (m .lists) ≡ 8
   pub queues : length (m .queues) ≡ 8
-  pub up : length (m .up) ≡ 8
+  pub shelves : length (m .shelves) ≡ 8
   pub messages : length (m .messages) ≡ 16
   pub views : length (m .views) ≡ 32
   pub repairs : length (m .repairs) ≡ 32
@@ -34,7 +35,6 @@ pub record Sized (m : State) : Type 0 where
   pub uacks : length (m .uacks) ≡ 256
   pub contents : length (m .contents) ≡ 256
   pub links : length (m .links) ≡ 128
-  pub viewlinks : length (m .viewlinks) ≡ 256
 
 -- a home and the bits of a list name stores, the home is in its list, and the list has two stores or more
 pub record LegalActor (stores home list : ℕ) : Type 0 where
@@ -141,13 +141,18 @@ pub record ViewlinkSlot (stores made p v l : ℕ) : Type 0 where
   pub atStore : 1 ≤ l → p < stores
   pub atView : 1 ≤ l → v < made * 2
 
+-- the store p: down where it isn't there; its viewlinks, by view
+pub record StoreSlot (stores made p : ℕ) (s : Store) : Type 0 where
+  pub upBlank : stores ≤ p → s .up ≡ false
+  pub long : length (s .viewlinks) ≡ 32
+  pub linkAt : (v : ℕ) → v < 32 → ViewlinkSlot stores made p v (getD (s .viewlinks) v 0)
+
 pub record EverySlot (m : State) : Type 0 where
   pub sized : Sized m
   pub made16 : m .made ≤ 16
   pub setup : SetupKind (m .stores) (m .actors) (m .homes) (m .lists)
   pub homeBlank : (a : ℕ) → a < 8 → m .actors ≤ a → home m a ≡ 0
   pub listBlank : (a : ℕ) → a < 8 → m .actors ≤ a → list m a ≡ 0
-  pub upBlank : (p : ℕ) → p < 8 → m .stores ≤ p → isUp m p ≡ false
   pub viewAt : (v : ℕ) → v < 32 → ViewSlot (m .stores) (m .actors) (m .made) (view m (v - 1) .actor) v (view m v)
   pub onceAt : (v : ℕ) → v < 32 → 1 ≤ view m v .phase → view m v .phase ≤ 4 → times v (standing (queue m (view m v .actor))) ≡ 1
   pub queueAt : (a : ℕ) → a < 8 → QueueSlot (m .actors) (m .views) a (queue m a)
@@ -160,4 +165,4 @@ pub record EverySlot (m : State) : Type 0 where
   pub uackAt : (p v : ℕ) → p < 8 → v < 32 → CopySlot (m .stores) p 1 (statusNumber (entry m v .status)) (uackCopies m p v)
   pub contentsAt : (p v : ℕ) → p < 8 → v < 32 → ContentsSlot (m .stores) p (view m v) (contents m p v)
   pub linksAt : (p k : ℕ) → p < 8 → k < 16 → LinksSlot (contents m p (number k 0) .held) (view m (number k 0) .links) (causeLinks m p k)
-  pub viewlinkAt : (p v : ℕ) → p < 8 → v < 32 → ViewlinkSlot (m .stores) (m .made) p v (viewlink m p v)
+  pub storeAt : (p : ℕ) → p < 8 → StoreSlot (m .stores) (m .made) p (shelf m p)

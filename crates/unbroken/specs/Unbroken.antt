@@ -5,7 +5,7 @@ use mathlib.Core.Logic.{_≢_}
 use mathlib.Core.Bool.{true, false}
 use lib.ListN.{length, getD}
 use Rattle.protocol.specs.Words.{bit, times}
-use Rattle.protocol.specs.Slots.{number, statusNumber, home, list, isUp, queue, standing, message, view, repair, entry}
+use Rattle.protocol.specs.Slots.{number, statusNumber, home, list, shelf, isUp, queue, standing, message, view, repair, entry}
 use Rattle.protocol.specs.Slots.{recordCopies, ackCopies, updateCopies, uackCopies, contents, causeLinks, viewlink}
 use Rattle.unbroken.specs.EverySlot.{Sized, SetupKind, Unset}
 use Rattle.protocol.specs.declared.State.{State}
@@ -16,6 +16,7 @@ pub record Unbroken (m : State) : Type 0 where
   pub queueLong : (a : ℕ) → a < 8 → length (queue m a .views) ≡ 16
   pub linksLong : (v : ℕ) → v < 32 → length (view m v .links) ≡ 16
   pub heldLong : (p k : ℕ) → p < 8 → k < 16 → length (causeLinks m p k) ≡ 16
+  pub viewlinksLong : (p : ℕ) → p < 8 → length (shelf m p .viewlinks) ≡ 32
   -- a number is outside what is said above
   pub made16 : m .made ≤ 16
   pub actorIn : (v : ℕ) → v < m .made * 2 → view m v .actor < m .actors

@@ -10,8 +10,8 @@ use Rattle.protocol.specs.Words.{bit, times}
 use Rattle.protocol.specs.Slots.{number, place, noView, noQueue, noContents, statusNumber, standing}
 use Rattle.protocol.specs.Setup.{storesIn, legalActor, legalActors, legal}
 use Rattle.protocol.specs.Broken.{linkFine, linksFine, isUnset, phaseFine, madeView, waits, queuedOnce, viewFine, standsFine, queueFine}
-use Rattle.protocol.specs.Broken.{messageFine, repairFine, entryFine, copiesFine, contentsFine, sameLinks, heldLinksFine, viewlinkFine, setupFine}
-use Rattle.unbroken.specs.EverySlot.{LegalActor, LegalSetup, SetupKind, none, some, Unset, ViewSlot, QueueSlot, MessageSlot, RepairSlot, EntrySlot, CopySlot, ContentsSlot, LinksSlot, ViewlinkSlot}
+use Rattle.protocol.specs.Broken.{messageFine, repairFine, entryFine, copiesFine, contentsFine, sameLinks, heldLinksFine, viewlinkFine, viewlinksFine, storeFine, setupFine}
+use Rattle.unbroken.specs.EverySlot.{LegalActor, LegalSetup, SetupKind, none, some, Unset, ViewSlot, QueueSlot, MessageSlot, RepairSlot, EntrySlot, CopySlot, ContentsSlot, LinksSlot, ViewlinkSlot, StoreSlot}
 use Rattle.protocol.specs.declared.View.{View}
 use Rattle.protocol.specs.declared.Queue.{Queue}
 use Rattle.protocol.specs.declared.Contents.{Contents}
@@ -19,6 +19,7 @@ use Rattle.protocol.specs.declared.Links.{Links}
 use Rattle.protocol.specs.declared.Message.{Message}
 use Rattle.protocol.specs.declared.Repair.{Repair}
 use Rattle.protocol.specs.declared.Entry.{Entry}
+use Rattle.protocol.specs.declared.Store.{Store}
 use Rattle.unbroken.proofs.Laws.Tests.{by-test, not-both}
 use Rattle.unbroken.proofs.Laws.Says.{Says, le-says, lt-says, eq-says, is-says, le-splits, lt-splits, eq-splits, zero-splits, is-splits, and-says, or-says, not-says, pick-says, all-says, un-splits, not-splits, put-says}
 
@@ -272,11 +273,20 @@ held-links-says contents views at l =
     (λ x. let long = x .0 in record { long = long; sameLinks = λ j h e. x .1 .0 e j (omega arith); linksBlank = λ j h e. x .1 .1 e j (omega arith) })
     (λ s. let long = s .long in (long, (λ e j h. s .sameLinks j (omega arith) e, λ e j h. s .linksBlank j (omega arith) e)))
 
-pub viewlink-says : (stores made at l : ℕ) → Says (viewlinkFine stores made at l) (ViewlinkSlot stores made (at / 32) (at % 32) l)
-viewlink-says stores made at l =
-    put-says (or-says (zero-splits l) (and-says (le-says l stores) (and-says (lt-says (at / 32) stores) (lt-says (at % 32) (made * 2)))))
+viewlink-says : (stores made p v l : ℕ) → Says (viewlinkFine stores made p v l) (ViewlinkSlot stores made p v l)
+viewlink-says stores made p v l =
+    put-says (or-says (zero-splits l) (and-says (le-says l stores) (and-says (lt-says p stores) (lt-says v (made * 2)))))
     (λ x. record { linkIn = by-test (eqb l 0) (λ e. let z = zero-splits l .holds .tells e in omega arith) (λ e. x (zero-splits l .fails e) .0); atStore = λ h. x h .1 .0; atView = λ h. x h .1 .1 })
     (λ s h. (s .linkIn, (s .atStore h, s .atView h)))
+
+pub store-says : (stores made p : ℕ) (s : Store) → Says (storeFine stores made p s) (StoreSlot stores made p s)
+unfolding storeFine viewlinksFine
+store-says stores made p s =
+    put-says
+    (and-says (or-says (lt-splits p stores) (not-says (is-splits (s .up))))
+    (and-says (eq-says (length (s .viewlinks)) 32) (all-says (viewlinkFine stores made p) (ViewlinkSlot stores made p) (s .viewlinks) 0 (viewlink-says stores made p))))
+    (λ x. let long = x .1 .0 in record { upBlank = x .0; long = long; linkAt = λ v h. x .1 .1 v (omega arith) })
+    (λ t. let long = t .long in (t .upBlank, (long, λ v h. t .linkAt v (omega arith))))
 
 -- the setup
 legal-actor-says : (stores home list : ℕ) → Says (legalActor stores home list) (LegalActor stores home list)

@@ -25,7 +25,7 @@ abbrev μ-loop : tie.MeasureT-loop
 
 -- from where it is known what the step looks back at, the way to each place before
 abbrev store-at : tie.Joined2 Inv-loop μ-loop → tie.After-store-of Inv-loop μ-loop
-store-at c = c .before .before .before .before .before .before .before .before .before
+store-at c = c .before .before .before .before .before .before .before .before .before .before
 
 abbrev actor-at : tie.Joined2 Inv-loop μ-loop → tie.After-actor-of Inv-loop μ-loop
 actor-at c = store-at c .before
@@ -50,10 +50,10 @@ start-at c = turn-at c .before .before .before
 
 -- from where the slots are written, the way to that and to the rule
 abbrev joined-at : tie.After-made-of Inv-loop μ-loop → tie.Joined2 Inv-loop μ-loop
-joined-at c = c .before .before .before .before .before .before .before .before .before .before .before .before .before .before .before .before .before .before .before .before .before .before .before
+joined-at c = c .before .before .before .before .before .before .before .before .before .before .before .before .before .before .before .before .before .before .before .before .before
 
 abbrev rule-at : tie.After-made-of Inv-loop μ-loop → tie.After-rule Inv-loop μ-loop
-rule-at c = c .before .before .before .before .before .before .before .before .before .before .before
+rule-at c = c .before .before .before .before .before .before .before .before .before .before .before .before
 
 -- no number that the step names lies outside
 inside : (c : tie.Else1 Inv-loop μ-loop) → outsideOf ((c .before .before .before .before .loop .m) .stores) ((c .before .before .before .before .loop .m) .actors) ((c .before .before .before .before .loop .m) .made) (getD (c .before .before .before .before .before .before .before .args .t2) (c .before .before .before .before .loop .i) (Send 0 0 0 0 0)) ≡ false
@@ -155,12 +155,6 @@ mul-at c = search needs
 add-at : tie.Need-add-at Inv-loop μ-loop
 add-at c = search needs
 
-mul-over : tie.Need-mul-over Inv-loop μ-loop
-mul-over c = search needs
-
-add-over : tie.Need-add-over Inv-loop μ-loop
-add-over c = search needs
-
 mul-sender : tie.Need-mul-sender Inv-loop μ-loop
 mul-sender c = search needs
 
@@ -196,6 +190,12 @@ mul-other c = search needs
 
 element-copy-out-other : tie.Need-element-copy-out-other Inv-loop μ-loop
 element-copy-out-other c = search needs
+
+mul-shelf : tie.Need-mul-shelf Inv-loop μ-loop
+mul-shelf c = search needs
+
+element-copy-out-shelf : tie.Need-element-copy-out-shelf Inv-loop μ-loop
+element-copy-out-shelf c = search needs
 
 mul-contents : tie.Need-mul-contents Inv-loop μ-loop
 mul-contents c = search needs
@@ -252,7 +252,7 @@ element-copy-out-made-of : tie.Need-element-copy-out-made-of Inv-loop μ-loop
 element-copy-out-made-of c = search needs
 
 rule-requires : tie.Need-rule-requires Inv-loop μ-loop
-rule-requires c κs = fits (found ((c .before .before .before .before .before .before .before .before .before .before .before))) (bounds _ (turn-at (c .before .before .before .before .before .before .before .before .before .before .before) .loop .inv .unbroken)) (inside (inside-at (c .before .before .before .before .before .before .before .before .before .before .before))) (view-at (c .before .before .before .before .before .before .before .before .before .before .before) .view-of .ensures .1) (actor-at (c .before .before .before .before .before .before .before .before .before .before .before) .actor-of .ensures .1) (store-at (c .before .before .before .before .before .before .before .before .before .before .before) .store-of .ensures .1)
+rule-requires c κs = fits (found ((c .before .before .before .before .before .before .before .before))) (bounds _ (turn-at (c .before .before .before .before .before .before .before .before) .loop .inv .unbroken)) (inside (inside-at (c .before .before .before .before .before .before .before .before))) (view-at (c .before .before .before .before .before .before .before .before) .view-of .ensures .1) (actor-at (c .before .before .before .before .before .before .before .before) .actor-of .ensures .1) (store-at (c .before .before .before .before .before .before .before .before) .store-of .ensures .1)
 
 made-of-requires : tie.Need-made-of-requires Inv-loop μ-loop
 made-of-requires c κs = search needs
@@ -299,6 +299,12 @@ mul-other-2 c = omega (arith, within c .0, within c .1, within c .2)
 element-set-from-other : tie.Need-element-set-from-other Inv-loop μ-loop
 element-set-from-other c = omega (arith, within c .0, within c .1, within c .2)
 
+mul-shelf-2 : tie.Need-mul-shelf-2 Inv-loop μ-loop
+mul-shelf-2 c = omega (arith, within c .0, within c .1, within c .2)
+
+element-set-from-shelf : tie.Need-element-set-from-shelf Inv-loop μ-loop
+element-set-from-shelf c = omega (arith, within c .0, within c .1, within c .2)
+
 element-write-m : tie.Need-element-write-m Inv-loop μ-loop
 element-write-m c = omega (arith, within c .0, within c .1, within c .2)
 
@@ -311,9 +317,6 @@ element-write-m-3 c = omega (arith, within c .0, within c .1, within c .2)
 element-write-m-4 : tie.Need-element-write-m-4 Inv-loop μ-loop
 element-write-m-4 c = omega (arith, within c .0, within c .1, within c .2)
 
-element-write-m-5 : tie.Need-element-write-m-5 Inv-loop μ-loop
-element-write-m-5 c = omega (arith, within c .0, within c .1, within c .2)
-
 mul-contents-2 : tie.Need-mul-contents-2 Inv-loop μ-loop
 mul-contents-2 c = omega (arith, within c .0, within c .1, within c .2)
 
@@ -325,12 +328,6 @@ mul-links-2 c = omega (arith, within c .0, within c .1, within c .2)
 
 element-set-from-links : tie.Need-element-set-from-links Inv-loop μ-loop
 element-set-from-links c = omega (arith, within c .0, within c .1, within c .2)
-
-element-write-m-6 : tie.Need-element-write-m-6 Inv-loop μ-loop
-element-write-m-6 c = omega (arith, within c .0, within c .1, within c .2)
-
-element-write-m-7 : tie.Need-element-write-m-7 Inv-loop μ-loop
-element-write-m-7 c = omega (arith, within c .0, within c .1, within c .2)
 
 add-room-2 : tie.Need-add-room-2 Inv-loop μ-loop
 add-room-2 c = omega (arith, start-at (joined-at c) .good .1 .1 .1 .0 .0, turn-at (joined-at c) .loop .inv .room, turn-at (joined-at c) .loop .inv .long, test-at (joined-at c) .loop-test .taken)
@@ -394,8 +391,6 @@ steps-unbroken-spec =
     add-o
     mul-at
     add-at
-    mul-over
-    add-over
     mul-sender
     add-sender
     mul-queue
@@ -408,6 +403,8 @@ steps-unbroken-spec =
     element-copy-out-facing
     mul-other
     element-copy-out-other
+    mul-shelf
+    element-copy-out-shelf
     mul-contents
     element-copy-out-contents
     mul-links
@@ -442,17 +439,16 @@ steps-unbroken-spec =
     element-set-from-entry
     mul-other-2
     element-set-from-other
+    mul-shelf-2
+    element-set-from-shelf
     element-write-m
     element-write-m-2
     element-write-m-3
     element-write-m-4
-    element-write-m-5
     mul-contents-2
     element-set-from-contents
     mul-links-2
     element-set-from-links
-    element-write-m-6
-    element-write-m-7
     add-room-2
     slice-write-room-2
     add-i-2
