@@ -16,7 +16,7 @@ use Rattle.protocol.specs.declared.Status.the-variants.{ToSend}
 use Rattle.protocol.specs.declared.Drained.{Drained}
 use Rattle.protocol.specs.declared.Met.{Met}
 use Rattle.protocol.specs.declared.Walked.{Walked}
-use Rattle.protocol.specs.Rule.{phased}
+use Rattle.protocol.specs.Views.{phased}
 use Rattle.protocol.specs.TakeAck.{ackedView, ackTaken}
 use Rattle.protocol.specs.SendUpdate.{inStatus}
 use Rattle.protocol.specs.Crash.{crashed}

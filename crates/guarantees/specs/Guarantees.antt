@@ -7,7 +7,7 @@ use mathlib.Core.Bool.{true}
 use mathlib.Core.List.{List, [], _∷_, _++_}
 use lib.ListN.{length, getD, replicate}
 use Rattle.protocol.specs.Words.{pick, bit, times}
-use Rattle.protocol.specs.Slots.{number, statusNumber, isUp, view, contents, causeLinks, viewlink}
+use Rattle.protocol.specs.Slots.{number, statusNumber, isUp, view, lastingContents as contents, lastingCauseLinks as causeLinks, lastingViewlink as viewlink}
 use Rattle.protocol.specs.Setup.{emptyMachine, setupOf}
 use Rattle.protocol.specs.Broken.{brokenOf}
 use Rattle.protocol.specs.Closed.{closedOf}

@@ -1,6 +1,7 @@
 pub mod Numbers
 pub mod Words
 pub mod Outcome
+pub mod Views
 pub mod Slots
 pub mod Writes
 pub mod Setup

@@ -1,7 +1,7 @@
 -- By its test. Assumes nothing.
 use Rattle.unbroken.proofs.Tests.{tests}
-use Rattle.broken.proofs.queues.flag_fine.Statement.{statement}
-use Rattle.broken.proofs.queues.flag_fine.Tie as tie
+use Rattle.broken.proofs.held.flag_fine.Statement.{statement}
+use Rattle.broken.proofs.held.flag_fine.Tie as tie
 
 returns : tie.Need-returns
 returns c = search tests
