@@ -22,11 +22,11 @@ mul-s c = omega arith
 array-copy-out-s : tie.Need-array-copy-out-s Inv-loop μ-loop
 array-copy-out-s c = omega arith
 
-mul-out : tie.Need-mul-out Inv-loop μ-loop
-mul-out c = omega arith
+element-copy-out-out : tie.Need-element-copy-out-out Inv-loop μ-loop
+element-copy-out-out c = omega arith
 
 array-write-out : tie.Need-array-write-out Inv-loop μ-loop
-array-write-out c = omega (arith, c .before .before .loop .inv .long)
+array-write-out c = omega (arith, c .before .before .before .loop .inv .long)
 
 add-i : tie.Need-add-i Inv-loop μ-loop
 add-i c = omega arith
@@ -35,7 +35,7 @@ loop-less : tie.Need-loop-less Inv-loop μ-loop
 loop-less c = omega arith
 
 loop-again : tie.Need-loop-again Inv-loop μ-loop
-loop-again c = fill-step (c .before .before .loop .inv) (c .before .loop-test .taken) refl
+loop-again c = fill-step (c .before .before .before .loop .inv) (c .before .before .loop-test .taken) refl
 
 returns : tie.Need-returns Inv-loop μ-loop
 returns c = fill-end (c .before .loop .inv) (c .loop-test .left)
@@ -49,7 +49,7 @@ all-viewlinks-spec =
     loop-holds
     mul-s
     array-copy-out-s
-    mul-out
+    element-copy-out-out
     array-write-out
     add-i
     loop-less
