@@ -33,7 +33,7 @@ impl Program {
     }
 
     /// What the program prints for a book, and how it died if it did.
-    fn output(&self, book: &[u8]) -> io::Result<Vec<u8>> {
+    pub fn output(&self, book: &[u8]) -> io::Result<Vec<u8>> {
         let mut command = Command::new(&self.path);
         let mut child =
             command.stdin(Stdio::piped()).stdout(Stdio::piped()).spawn().map_err(|error| {

@@ -5,11 +5,14 @@ use std::error::Error;
 use std::fs::File;
 use std::io::{self, Read, Write};
 use std::ops::Range;
+use std::path::Path;
 use std::process::ExitCode;
 
 use peer::book::Book;
+use peer::check::{check, Programs};
 use peer::compare::{compare, Program};
 use peer::coverage::Coverage;
+use peer::explain::explain;
 use peer::generate::generate;
 use peer::programs::{self, MAX_INPUT};
 use peer::text;
@@ -19,6 +22,8 @@ const USAGE: &str = "usage:
   peer inspect                                a book on standard input, everything out
   peer book [FILE]                            a text in, its book out
   peer text [FILE]                            a book in, its text out
+  peer explain [FILE]                         a book in, each step's answer and why out
+  peer check FOLDER [RECORDER INSPECT]        the cases of a folder, through two programs too
   peer generate SEED                          the book of a seed out
   peer coverage FROM COUNT                    what the books of some seeds cover
   peer compare FROM COUNT RECORDER INSPECT    the books of some seeds through two programs";
@@ -40,6 +45,13 @@ fn run(arguments: &[&str]) -> Outcome {
         ["inspect"] => print(programs::inspect(&program_input()?).as_bytes()),
         ["book", ref file @ ..] if file.len() <= 1 => text_to_book(file.first().copied()),
         ["text", ref file @ ..] if file.len() <= 1 => book_to_text(file.first().copied()),
+        ["explain", ref file @ ..] if file.len() <= 1 => {
+            print(explain(&read(file.first().copied())?).as_bytes())
+        }
+        ["check", folder] => check_folder(folder, None),
+        ["check", folder, recorder, inspect] => {
+            check_folder(folder, Some(Programs::new(recorder.into(), inspect.into())))
+        }
         ["generate", seed] => print(&generate(number(seed)?)),
         ["coverage", from, count] => {
             print(Coverage::of_seeds(seeds(from, count)?).to_string().as_bytes())
@@ -72,7 +84,7 @@ fn text_to_book(file: Option<&str>) -> Outcome {
 
 fn book_to_text(file: Option<&str>) -> Outcome {
     let book = Book::read(&read(file)?);
-    let book = book.map_err(|refusal| format!("refused {}: a malformed book", refusal as u8))?;
+    let book = book.map_err(|malformed| format!("refused 10: {malformed}"))?;
     print(text::write(&book).as_bytes())
 }
 
@@ -85,6 +97,12 @@ fn read(file: Option<&str>) -> Result<Vec<u8>, String> {
     };
     result.map_err(|error| format!("{}: {error}", file.unwrap_or("standard input")))?;
     Ok(bytes)
+}
+
+fn check_folder(folder: &str, programs: Option<Programs>) -> Outcome {
+    let report = check(Path::new(folder), programs.as_ref())?;
+    print(report.to_string().as_bytes())?;
+    Ok(if report.has_differences() { ExitCode::FAILURE } else { ExitCode::SUCCESS })
 }
 
 fn compare_seeds(seeds: Range<u64>, programs: &[Program]) -> Outcome {

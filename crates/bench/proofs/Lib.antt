@@ -1,2 +1,1 @@
--- What the proofs of several functions use.
-mod Turning
+pub mod Turning

@@ -4,8 +4,8 @@ use Prim.Native.Nat.{ℕ, zero, suc, _+_, _-_, _%_, _^_, _<_, _≤_}
 use mathlib.Core.Path.{_≡_, refl, sym, _∙_, ap}
 use native.Mathlib.Omega.{arith}
 use lib.ListN.{set}
-use Rattle.machine.specs.Writes.{withAcks}
-use Rattle.machine.specs.declared.Machine.{Machine}
+use Rattle.protocol.specs.Writes.{withAcks}
+use Rattle.protocol.specs.declared.State.{State}
 use Rattle.bench.specs.Turns.{turns, turn, turned, summed}
 
 pub record Turning {A : Type 0} (f : ℕ → A → A) (all : ℕ) (from : A) (left : ℕ) (now : A) : Type 0 where
@@ -32,11 +32,11 @@ module _ {A : Type 0} {f : ℕ → A → A} {all : ℕ} {from : A} {left : ℕ} 
   turns-end none = sym (none-left f left now none) ∙ h .same
 
 -- a turn whose acks and whose sum are known
-pub turn-told : (told : Machine → ℕ) (m : Machine) (at left sum : ℕ) {acks next : ℕ} → acks ≡ left % 2 + 1
+pub turn-told : (told : State → ℕ) (m : State) (at left sum : ℕ) {acks next : ℕ} → acks ≡ left % 2 + 1
     → next ≡ summed sum (told (withAcks m (set (m .acks) at acks)))
-    → _≡_ {A = Machine × ℕ} (withAcks m (set (m .acks) at acks), next) (turn told at left (m, sum))
+    → _≡_ {A = State × ℕ} (withAcks m (set (m .acks) at acks), next) (turn told at left (m, sum))
 turn-told told m at left sum {acks} e q =
-    let f : ℕ → Machine = λ k. withAcks m (set (m .acks) at k) in
-    let h : ℕ → Machine × ℕ = λ k. (f k, summed sum (told (f k))) in
-    let p : ℕ → Machine × ℕ = λ n. (f acks, n) in
+    let f : ℕ → State = λ k. withAcks m (set (m .acks) at k) in
+    let h : ℕ → State × ℕ = λ k. (f k, summed sum (told (f k))) in
+    let p : ℕ → State × ℕ = λ n. (f acks, n) in
     ap p q ∙ ap h e

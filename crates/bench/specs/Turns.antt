@@ -3,21 +3,21 @@ use Prim.Native.Nat.{ℕ, zero, suc, _+_, _%_, _^_}
 use mathlib.Core.List.{List}
 use lib.Dec.{eqb}
 use lib.ListN.{set}
-use Rattle.machine.specs.Words.{pick, one}
-use Rattle.machine.specs.Writes.{withAcks}
-use Rattle.machine.specs.Broken.{brokenOf}
-use Rattle.machine.specs.declared.Machine.{Machine}
-use Rattle.rules.specs.declared.Step.{Step}
-use Rattle.rules.specs.declared.Step.the-variants.{Send}
-use Rattle.rules.specs.Step.{stepOf}
-use Rattle.runs.specs.Book.{shortMade}
-use Rattle.runs.specs.Run.{runOf}
-use Rattle.runs.specs.Drain.{drainOf}
-use Rattle.walk.specs.Walk.{walkOf}
+use Rattle.protocol.specs.Words.{pick, one}
+use Rattle.protocol.specs.Writes.{withAcks}
+use Rattle.protocol.specs.Broken.{brokenOf}
+use Rattle.protocol.specs.declared.State.{State}
+use Rattle.protocol.specs.declared.Step.{Step}
+use Rattle.protocol.specs.declared.Step.the-variants.{Send}
+use Rattle.protocol.specs.Step.{stepOf}
+use Rattle.protocol.specs.Book.{shortMade}
+use Rattle.protocol.specs.Run.{runOf}
+use Rattle.protocol.specs.Drain.{drainOf}
+use Rattle.protocol.specs.Walk.{walkOf}
 
 -- the machine after a book
-abbrev pub after : List ℕ → Machine
-after book = runOf book 4096 .machine
+abbrev pub after : List ℕ → State
+after book = runOf book 4096 .state
 
 -- a step from its kind and its fields; a send has the data word 7 and the last field as its causes
 unfoldable pub stepMade : ℕ → ℕ → ℕ → ℕ → ℕ → Step
@@ -32,22 +32,22 @@ abbrev pub summed : ℕ → ℕ → ℕ
 summed sum n = (sum + n) % 2 ^ 32
 
 -- the machine of a turn: the acks in flight at a place are 1 and 2 by turns
-abbrev pub turned : ℕ → ℕ → Machine → Machine
+abbrev pub turned : ℕ → ℕ → State → State
 turned at left m = withAcks m (set (m .acks) at (left % 2 + 1))
 
 -- a turn: what is told of its machine is added up
-abbrev pub turn : (Machine → ℕ) → ℕ → ℕ → Machine × ℕ → Machine × ℕ
+abbrev pub turn : (State → ℕ) → ℕ → ℕ → State × ℕ → State × ℕ
 turn told at left x = (turned at left (x .0), summed (x .1) (told (turned at left (x .0))))
 
 -- what is told of each call
-abbrev pub brokenTold : Machine → ℕ
+abbrev pub brokenTold : State → ℕ
 brokenTold m = one (brokenOf m)
 
-abbrev pub walkTold : ℕ → Machine → ℕ
+abbrev pub walkTold : ℕ → State → ℕ
 walkTold key m = walkOf m key .count
 
-abbrev pub drainTold : Machine → ℕ
-drainTold m = drainOf m .count + drainOf m .machine .made
+abbrev pub drainTold : State → ℕ
+drainTold m = drainOf m .count + drainOf m .state .made
 
-abbrev pub stepTold : Step → Machine → ℕ
-stepTold s m = stepOf m s .answer + stepOf m s .machine .made
+abbrev pub stepTold : Step → State → ℕ
+stepTold s m = stepOf m s .answer + stepOf m s .state .made

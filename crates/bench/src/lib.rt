@@ -8,23 +8,23 @@ ghost use mathlib.Core.Path.{_≡_};
 ghost use mathlib.Core.Bool.{false};
 ghost use Prim.Native.Nat.{_+_, _%_};
 ghost use lib.ListN.{length};
-ghost use Rattle.machine.specs.Words.{pick, one};
-ghost use Rattle.machine.specs.Broken.{brokenOf};
-ghost use Rattle.runs.specs.Run.{runOf, bufferOf};
+ghost use Rattle.protocol.specs.Words.{pick, one};
+ghost use Rattle.protocol.specs.Broken.{brokenOf};
+ghost use Rattle.protocol.specs.Run.{runOf, bufferOf};
 ghost use Rattle.bench.specs.Turns.{after, turns, summed, turn, brokenTold, walkTold, drainTold, stepTold, stepMade};
 use machine::Machine;
-use rules::Recorder;
-use rules::Step;
+use protocol::State;
+use protocol::Step;
 
 mod step;
 
 // The machine after a book of at most 4,096 steps.
-fn after(book: &[u8]) -> Machine
+fn after(book: &[u8]) -> State
     ensures { λ r. ⌜ r ≡ after (now (book .entry)) ⌝ }
 {
     let mut answers = [0u8; 4096];
     let ran = runs::run(book, &mut answers);
-    ran.machine
+    ran.state
 }
 
 // The acks of a turn.
@@ -47,7 +47,7 @@ fn told(n: u16, made: u8) -> u32
     n as u32 + made as u32
 }
 
-fn broken_turns(from: Machine, at: u8, times: u32) -> u32
+fn broken_turns(from: State, at: u8, times: u32) -> u32
     ensures { λ r. ⌜ r ≡ turns (turn brokenTold at) times (from, 0) .1 ⌝ }
 {
     let mut m = from;
@@ -55,13 +55,13 @@ fn broken_turns(from: Machine, at: u8, times: u32) -> u32
     let mut left = times;
     while 0 < left {
         m.acks[at as usize] = acks(left);
-        sum = std::num::wrapping_add_u32(sum, number(m.broken()));
+        sum = std::num::wrapping_add_u32(sum, number(broken::is_broken(m)));
         left -= 1;
     }
     sum
 }
 
-fn walk_turns(from: Machine, key: u8, at: u8, times: u32) -> u32
+fn walk_turns(from: State, key: u8, at: u8, times: u32) -> u32
     ensures { λ r. ⌜ r ≡ turns (turn (walkTold key) at) times (from, 0) .1 ⌝ }
 {
     let mut m = from;
@@ -76,7 +76,7 @@ fn walk_turns(from: Machine, key: u8, at: u8, times: u32) -> u32
     sum
 }
 
-fn drain_turns(from: Machine, at: u8, times: u32) -> u32
+fn drain_turns(from: State, at: u8, times: u32) -> u32
     ensures { λ r. ⌜ r ≡ turns (turn drainTold at) times (from, 0) .1 ⌝ }
 {
     let mut m = from;
@@ -84,14 +84,14 @@ fn drain_turns(from: Machine, at: u8, times: u32) -> u32
     let mut left = times;
     while 0 < left {
         m.acks[at as usize] = acks(left);
-        let drained = runs::drain(m);
-        sum = std::num::wrapping_add_u32(sum, told(drained.count, drained.machine.made));
+        let drained = drain::drain(m);
+        sum = std::num::wrapping_add_u32(sum, told(drained.count, drained.state.made));
         left -= 1;
     }
     sum
 }
 
-fn step_turns(from: Machine, s: Step, at: u8, times: u32) -> u32
+fn step_turns(from: State, s: Step, at: u8, times: u32) -> u32
     ensures { λ r. ⌜ r ≡ turns (turn (stepTold s) at) times (from, 0) .1 ⌝ }
 {
     let mut m = from;
@@ -99,23 +99,23 @@ fn step_turns(from: Machine, s: Step, at: u8, times: u32) -> u32
     let mut left = times;
     while 0 < left {
         m.acks[at as usize] = acks(left);
-        let r = Recorder { machine: m }.step(s);
-        sum = std::num::wrapping_add_u32(sum, told(r.answer as u16, r.machine.made));
+        let r = Machine { state: m }.step(s);
+        sum = std::num::wrapping_add_u32(sum, told(r.answer as u16, r.machine.state.made));
         left -= 1;
     }
     sum
 }
 
 // The machine is the same each turn: there is no test whose answer could be kept.
-fn unbroken_turns(m: Machine, s: Step, times: u32) -> u32
+fn unbroken_turns(m: State, s: Step, times: u32) -> u32
     requires { ⌜ brokenOf m ≡ false ⌝ }
     ensures { λ r. ⌜ r ≡ turns (λ _ sum. summed sum (stepTold s m)) times 0 ⌝ }
 {
     let mut sum: u32 = 0;
     let mut left = times;
     while 0 < left {
-        let r = Recorder { machine: m }.step_unbroken(s);
-        sum = std::num::wrapping_add_u32(sum, told(r.answer as u16, r.machine.made));
+        let r = Machine { state: m }.step_unbroken(s);
+        sum = std::num::wrapping_add_u32(sum, told(r.answer as u16, r.machine.state.made));
         left -= 1;
     }
     sum
@@ -185,7 +185,7 @@ pub extern "C" fn bench_step_unbroken(
     ensures { λ r. ⌜ r ≡ pick (brokenOf (after (now (book .entry)))) 1 (turns (λ _ sum. summed sum (stepTold (stepMade kind a b c d) (after (now (book .entry))))) times 0) ⌝ }
 {
     let m = after(book);
-    if m.broken() {
+    if broken::is_broken(m) {
         return 1;
     }
     unbroken_turns(m, step::step(kind, a, b, c, d), times)

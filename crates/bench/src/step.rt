@@ -1,8 +1,8 @@
 // A step from its kind and its fields.
 
-use rules::Step;
+use protocol::Step;
 ghost use mathlib.Core.Path.{_≡_};
-ghost use Rattle.runs.specs.Book.{repairMade};
+ghost use Rattle.protocol.specs.Book.{repairMade};
 ghost use Rattle.bench.specs.Turns.{stepMade};
 
 // Kinds 9 to 16.

@@ -4,50 +4,51 @@ use Prim.Native.Nat.{ℕ}
 use mathlib.Core.Path.{_≡_, refl, ap, _∙_}
 use mathlib.Core.Bool.{Bool, true, false, _&&_, not}
 use mathlib.Core.List.{List, [], _∷_, _++_}
-use Rattle.machine.specs.Words.{pick}
-use Rattle.machine.specs.Setup.{answered}
-use Rattle.machine.specs.Broken.{brokenOf}
-use Rattle.machine.specs.declared.Machine.{Machine}
+use Rattle.protocol.specs.Words.{pick}
+use Rattle.protocol.specs.Setup.{answered}
+use Rattle.protocol.specs.Broken.{brokenOf}
+use Rattle.protocol.specs.declared.State.{State}
 use borrow.Author.Tests.{not-true}
-use Rattle.machine.proofs.Laws.Tests.{and-left, and-right}
-use Rattle.rules.specs.Rule.{decided}
-use Rattle.rules.specs.Step.{numberOf}
-use Rattle.rules.specs.declared.Step.{Step}
-use Rattle.bites.specs.Variants.{Rules, afterBy, stepBy, ranBy, acceptedInto, acknowledgedBy}
+use Rattle.unbroken.proofs.Laws.Tests.{and-left, and-right}
+use Rattle.protocol.specs.Rule.{decided}
+use Rattle.protocol.specs.Step.{numberOf}
+use Rattle.protocol.specs.declared.Step.{Step}
+use Rattle.bites.specs.Variants.{Rules, stepBy, ranBy, acknowledgedBy}
+use Rattle.guarantees.specs.Acknowledged.{acceptedInto}
 
-unfoldable pub ruled : Rules → Machine → Step → Machine
-ruled rules m s = decided (numberOf m s) m (afterBy rules m s) .machine
+unfoldable pub ruled : Rules → State → Step → State
+ruled rules m s = decided (numberOf m s) m (rules m s) .state
 
-unfoldable pub ranRuled : Rules → Machine → List Step → Machine
+unfoldable pub ranRuled : Rules → State → List Step → State
 ranRuled rules m [] = m
 ranRuled rules m (s ∷ ss) = ranRuled rules (ruled rules m s) ss
 
-unfoldable pub ackedRuled : Rules → Machine → List Step → ℕ → List ℕ
+unfoldable pub ackedRuled : Rules → State → List Step → ℕ → List ℕ
 ackedRuled rules m [] v = []
 ackedRuled rules m (s ∷ ss) v = acceptedInto m (ruled rules m s) s v ++ ackedRuled rules (ruled rules m s) ss v
 
 -- no machine that a step is asked of is broken
-unfoldable pub wholeAlong : Rules → Machine → List Step → Bool
+unfoldable pub wholeAlong : Rules → State → List Step → Bool
 wholeAlong rules m [] = true
 wholeAlong rules m (s ∷ ss) = not (brokenOf m) && wholeAlong rules (ruled rules m s) ss
 
-pub step-ruled : (rules : Rules) (m : Machine) (s : Step) → brokenOf m ≡ false → stepBy rules m s .machine ≡ ruled rules m s
+pub step-ruled : (rules : Rules) (m : State) (s : Step) → brokenOf m ≡ false → stepBy rules m s .state ≡ ruled rules m s
 unfolding stepBy ruled
-step-ruled rules m s e = ap (λ (b : Bool). pick b (answered 1 m) (decided (numberOf m s) m (afterBy rules m s)) .machine) e
+step-ruled rules m s e = ap (λ (b : Bool). pick b (answered 1 m) (decided (numberOf m s) m (rules m s)) .state) e
 
 module _ (rules : Rules) where
-  pub ran-ruled : (m : Machine) (steps : List Step) → wholeAlong rules m steps ≡ true → ranBy rules m steps ≡ ranRuled rules m steps
+  pub ran-ruled : (m : State) (steps : List Step) → wholeAlong rules m steps ≡ true → ranBy rules m steps ≡ ranRuled rules m steps
   unfolding ranBy ranRuled wholeAlong
   ran-ruled m [] e = refl
   ran-ruled m (s ∷ ss) e =
       let h = not-true (brokenOf m) (and-left (not (brokenOf m)) (wholeAlong rules (ruled rules m s) ss) e) in
-      ap (λ (n : Machine). ranBy rules n ss) (step-ruled rules m s h)
+      ap (λ (n : State). ranBy rules n ss) (step-ruled rules m s h)
       ∙ ran-ruled (ruled rules m s) ss (and-right (not (brokenOf m)) (wholeAlong rules (ruled rules m s) ss) e)
 
-  pub acked-ruled : (m : Machine) (steps : List Step) (v : ℕ) → wholeAlong rules m steps ≡ true → acknowledgedBy rules m steps v ≡ ackedRuled rules m steps v
+  pub acked-ruled : (m : State) (steps : List Step) (v : ℕ) → wholeAlong rules m steps ≡ true → acknowledgedBy rules m steps v ≡ ackedRuled rules m steps v
   unfolding acknowledgedBy ackedRuled wholeAlong
   acked-ruled m [] v e = refl
   acked-ruled m (s ∷ ss) v e =
       let h = not-true (brokenOf m) (and-left (not (brokenOf m)) (wholeAlong rules (ruled rules m s) ss) e) in
-      ap (λ (n : Machine). acceptedInto m n s v ++ acknowledgedBy rules n ss v) (step-ruled rules m s h)
+      ap (λ (n : State). acceptedInto m n s v ++ acknowledgedBy rules n ss v) (step-ruled rules m s h)
       ∙ ap (λ (l : List ℕ). acceptedInto m (ruled rules m s) s v ++ l) (acked-ruled (ruled rules m s) ss v (and-right (not (brokenOf m)) (wholeAlong rules (ruled rules m s) ss) e))

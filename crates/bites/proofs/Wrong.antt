@@ -6,35 +6,36 @@ use mathlib.Core.Logic.{_≢_}
 use mathlib.Core.Bool.{true, false}
 use mathlib.Core.List.{List, [], _∷_, _++_, append-nil}
 use lib.ListN.{getD}
-use Rattle.machine.specs.Words.{bit, allFrom, table, times, allBelow}
-use Rattle.machine.specs.Slots.{number, view, viewlink}
-use Rattle.machine.specs.Setup.{legalActor, legalActors, legal, freshWith}
-use Rattle.machine.specs.Broken.{slotsFine, setupFine, rowsFine, upFine, linksFine, viewFine, queueFine, messageFine, repairFine, entryFine, recordsFine, updatesFine, contentsFine, sameLinks, heldLinksFine, viewlinksFine, jobsFine, placesFine, wholeOf, brokenOf}
-use Rattle.machine.specs.Closed.{closedOf}
-use Rattle.machine.specs.declared.Machine.{Machine}
-use Rattle.rules.specs.Send.{causesKnown, sendNo, sent}
-use Rattle.rules.specs.Receive.{receiveNo, receivedOf}
-use Rattle.rules.specs.PreCheck.{preCheckNo, preChecked}
-use Rattle.rules.specs.SendRecord.{sendRecordNo, recordSent}
-use Rattle.rules.specs.Timeout.{timeoutNo, timedOut}
-use Rattle.rules.specs.TakeRecord.{takeRecordNo, recordTaken}
-use Rattle.rules.specs.TakeAck.{takeAckNo, ackTaken}
-use Rattle.rules.specs.PostCheck.{postCheckNo, postChecked}
-use Rattle.rules.specs.TakeRepair.{takeRepairNo, repairTaken}
-use Rattle.rules.specs.SendUpdate.{sendUpdateNo, updateSent}
-use Rattle.rules.specs.TakeUpdate.{takeUpdateNo, updateTaken}
-use Rattle.rules.specs.TakeUack.{takeUackNo, uackTaken}
-use Rattle.rules.specs.Expire.{expireNo, expired}
-use Rattle.rules.specs.Lose.{loseNo, lost}
-use Rattle.rules.specs.Crash.{crashNo, crashed}
-use Rattle.rules.specs.Restart.{restartNo, restarted}
-use Rattle.rules.specs.declared.Step.{Step}
-use Rattle.rules.specs.declared.Step.the-variants.{TakeAck}
-use Rattle.runs.specs.Run.{ran, freshOf}
+use Rattle.protocol.specs.Words.{bit, allFrom, table, times, allBelow}
+use Rattle.protocol.specs.Slots.{number, view, viewlink}
+use Rattle.protocol.specs.Setup.{legalActor, legalActors, legal, freshWith}
+use Rattle.protocol.specs.Broken.{slotsFine, setupFine, rowsFine, linksFine, viewFine, queueFine, messageFine, repairFine, entryFine, recordsFine, updatesFine, contentsFine, sameLinks, heldLinksFine, viewlinksFine, storeFine, jobsFine, placesFine, wholeOf, brokenOf}
+use Rattle.protocol.specs.Closed.{closedOf}
+use Rattle.protocol.specs.declared.State.{State}
+use Rattle.protocol.specs.Send.{causesKnown, sendNo, sent}
+use Rattle.protocol.specs.Receive.{receiveNo, receivedOf}
+use Rattle.protocol.specs.PreCheck.{preCheckNo, preChecked}
+use Rattle.protocol.specs.SendRecord.{sendRecordNo, recordSent}
+use Rattle.protocol.specs.Timeout.{timeoutNo, timedOut}
+use Rattle.protocol.specs.TakeRecord.{takeRecordNo, recordTaken}
+use Rattle.protocol.specs.TakeAck.{takeAckNo, ackTaken}
+use Rattle.protocol.specs.PostCheck.{postCheckNo, postChecked}
+use Rattle.protocol.specs.TakeRepair.{takeRepairNo, repairTaken}
+use Rattle.protocol.specs.SendUpdate.{sendUpdateNo, updateSent}
+use Rattle.protocol.specs.TakeUpdate.{takeUpdateNo, updateTaken}
+use Rattle.protocol.specs.TakeUack.{takeUackNo, uackTaken}
+use Rattle.protocol.specs.Expire.{expireNo, expired}
+use Rattle.protocol.specs.Lose.{loseNo, lost}
+use Rattle.protocol.specs.Crash.{crashNo, crashed}
+use Rattle.protocol.specs.Restart.{restartNo, restarted}
+use Rattle.protocol.specs.declared.Step.{Step}
+use Rattle.protocol.specs.declared.Step.the-variants.{TakeAck}
+use Rattle.protocol.specs.Run.{ran, freshOf}
+use Rattle.guarantees.specs.Acknowledged.{acceptedInto}
 use Rattle.guarantees.proofs.Demand.{cause-links, view-links}
 use Rattle.bites.specs.Setting.{M}
 use Rattle.bites.specs.Witnesses.{movedReceipt}
-use Rattle.bites.specs.Variants.{Rules, right, runBy, acceptedInto, acceptedBy, AckedIn, CauseLinksBy, ViewLinksBy}
+use Rattle.bites.specs.Variants.{Rules, right, runBy, acceptedBy, AckedIn, CauseLinksBy, ViewLinksBy}
 use Rattle.bites.specs.Wrong.{overwritten, overwriting, lateRecord, finishedEarly, finishing, replacedDestination, oneRedirected, leaving, secondRepair, unchecked, sendingOnly, acceptedLate, accepting, leftStore, BreaksViewLinks, BreaksCauseLinks, Bites}
 use Rattle.bites.proofs.Ruled.{ruled, ranRuled, ackedRuled, wholeAlong, step-ruled, ran-ruled, acked-ruled}
 use Rattle.bites.proofs.Right.{ran-right, accepted-right, acknowledged-right}
@@ -66,10 +67,10 @@ breaks-view-links : (rules : Rules) (steps : List Step) (s r link : ℕ) → who
     → link ≢ s → BreaksViewLinks rules steps s r link
 breaks-view-links rules steps s r link w c a b e n =
     let run = ran-ruled rules (freshOf M) steps w in
-    let closed = ap (λ (m : Machine). closedOf m 0) run ∙ c in
+    let closed = ap (λ (m : State). closedOf m 0) run ∙ c in
     let sent = acked-ruled rules (freshOf M) steps (number 0 0) w ∙ a in
     let received = acked-ruled rules (freshOf M) steps (number 0 1) w ∙ b in
-    let beside = ap (λ (m : Machine). viewlink m r (number 0 1)) run ∙ e in
+    let beside = ap (λ (m : State). viewlink m r (number 0 1)) run ∙ e in
     record {
       closed = closed;
       sent = sent;
@@ -98,10 +99,10 @@ breaks-cause-links : (rules : Rules) (steps : List Step) (step : Step) (p q link
 breaks-cause-links rules steps step p q link w z a c b e n =
     let m = ranRuled rules (freshOf M) steps in
     let run = ran-ruled rules (freshOf M) steps w in
-    let accepts = ap (λ (x : Machine). acceptedBy rules x step (number 1 0)) run ∙ ap (λ (x : Machine). acceptedInto m x step (number 1 0)) (step-ruled rules m step z) ∙ a in
-    let caused = ap (λ (x : Machine). bit (view x (number 1 0) .causes) 0) run ∙ c in
+    let accepts = ap (λ (x : State). acceptedBy rules x step (number 1 0)) run ∙ ap (λ (x : State). acceptedInto m x step (number 1 0)) (step-ruled rules m step z) ∙ a in
+    let caused = ap (λ (x : State). bit (view x (number 1 0) .causes) 0) run ∙ c in
     let received = acked-ruled rules (freshOf M) steps (number 0 1) w ∙ b in
-    let names = ap (λ (x : Machine). getD (view x (number 1 0) .links) 0 0) run ∙ e in
+    let names = ap (λ (x : State). getD (view x (number 1 0) .links) 0 0) run ∙ e in
     record {
       accepts = accepts;
       caused = caused;
@@ -112,7 +113,7 @@ breaks-cause-links rules steps step p q link w z a c b e n =
     }
 
 pub bites : Bites
-unfolding allFrom table times allBelow legalActor legalActors legal freshWith slotsFine setupFine rowsFine upFine linksFine viewFine queueFine messageFine repairFine entryFine recordsFine updatesFine contentsFine sameLinks heldLinksFine viewlinksFine jobsFine placesFine wholeOf brokenOf closedOf causesKnown sendNo sent receiveNo receivedOf preCheckNo preChecked sendRecordNo recordSent timeoutNo timedOut takeRecordNo recordTaken takeAckNo ackTaken postCheckNo postChecked takeRepairNo repairTaken sendUpdateNo updateSent takeUpdateNo updateTaken takeUackNo uackTaken expireNo expired loseNo lost crashNo crashed restartNo restarted acceptedInto ruled ranRuled ackedRuled wholeAlong overwritten finishedEarly oneRedirected unchecked acceptedLate
+unfolding allFrom table times allBelow legalActor legalActors legal freshWith slotsFine setupFine rowsFine linksFine viewFine queueFine messageFine repairFine entryFine recordsFine updatesFine contentsFine sameLinks heldLinksFine viewlinksFine storeFine jobsFine placesFine wholeOf brokenOf closedOf causesKnown sendNo sent receiveNo receivedOf preCheckNo preChecked sendRecordNo recordSent timeoutNo timedOut takeRecordNo recordTaken takeAckNo ackTaken postCheckNo postChecked takeRepairNo repairTaken sendUpdateNo updateSent takeUpdateNo updateTaken takeUackNo uackTaken expireNo expired loseNo lost crashNo crashed restartNo restarted acceptedInto ruled ranRuled ackedRuled wholeAlong overwritten finishedEarly oneRedirected unchecked acceptedLate
 bites =
     record {
       causeLinks = cause-links-right;

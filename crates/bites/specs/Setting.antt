@@ -2,9 +2,9 @@
 use Prim.Native.Nat.{ℕ}
 use mathlib.Core.List.{List, [], _∷_}
 use lib.ListN.{replicate}
-use Rattle.machine.specs.declared.Setup.{Setup}
-use Rattle.rules.specs.declared.Step.{Step}
-use Rattle.rules.specs.declared.Step.the-variants.{Send, PreCheck, SendRecord, Timeout, TakeRecord, TakeAck, PostCheck, SendUpdate, TakeUpdate, TakeUack, Lose}
+use Rattle.protocol.specs.declared.Setup.{Setup}
+use Rattle.protocol.specs.declared.Step.{Step}
+use Rattle.protocol.specs.declared.Step.the-variants.{Send, PreCheck, SendRecord, Timeout, TakeRecord, TakeAck, PostCheck, SendUpdate, TakeUpdate, TakeUack, Lose}
 
 -- Setup M: three stores, actor 0 home 0 list 5, actor 1 home 1 list 6.
 abbrev pub M : Setup

@@ -5,40 +5,42 @@ use mathlib.Core.Logic.{_≢_}
 use mathlib.Core.Bool.{true}
 use mathlib.Core.List.{List, [], _∷_, _++_}
 use lib.ListN.{getD}
-use Rattle.machine.specs.Words.{bit}
-use Rattle.machine.specs.Slots.{number, view, entry, viewlink}
-use Rattle.machine.specs.Writes.{withView, withEntry, withViewlink}
-use Rattle.machine.specs.Closed.{closedOf}
-use Rattle.machine.specs.declared.Machine.{Machine}
-use Rattle.rules.specs.Rule.{head, headView, phased}
-use Rattle.rules.specs.PreCheck.{preChecked}
-use Rattle.rules.specs.TakeRecord.{recordTaken}
-use Rattle.rules.specs.TakeAck.{ackedView, ackTaken}
-use Rattle.rules.specs.TakeRepair.{repairTaken}
-use Rattle.rules.specs.TakeUack.{finishedEntry, uackTaken}
-use Rattle.rules.specs.declared.Step.{Step}
-use Rattle.rules.specs.declared.Step.the-variants.{Receive, SendRecord, Timeout, TakeRecord, TakeAck, PostCheck, TakeRepair, SendUpdate, TakeUpdate, TakeUack, Lose}
+use Rattle.protocol.specs.Words.{bit}
+use Rattle.protocol.specs.Slots.{number, view, entry, viewlink}
+use Rattle.protocol.specs.Writes.{withView, withEntry, withViewlink}
+use Rattle.protocol.specs.Closed.{closedOf}
+use Rattle.protocol.specs.declared.State.{State}
+use Rattle.protocol.specs.Views.{phased}
+use Rattle.protocol.specs.Rule.{head, headView}
+use Rattle.protocol.specs.TakeRecord.{recordTaken}
+use Rattle.protocol.specs.TakeAck.{ackedView, ackTaken}
+use Rattle.protocol.specs.TakeRepair.{repairTaken}
+use Rattle.protocol.specs.TakeUack.{finishedEntry, uackTaken}
+use Rattle.protocol.specs.Step.{afterOf}
+use Rattle.protocol.specs.Kinds.{onPreCheck, onTakeRecord, onTakeAck, onTakeRepair, onTakeUack}
+use Rattle.protocol.specs.declared.Step.{Step}
+use Rattle.protocol.specs.declared.Step.the-variants.{Receive, SendRecord, Timeout, TakeRecord, TakeAck, PostCheck, TakeRepair, SendUpdate, TakeUpdate, TakeUack, Lose}
 use Rattle.bites.specs.Setting.{M, S, sends, moves, settles, updates}
 use Rattle.bites.specs.Witnesses.{movedReceipt}
 use Rattle.bites.specs.Variants.{Rules, right, runBy, acceptedBy, AckedIn, CauseLinksBy, ViewLinksBy}
 
 -- 1. Letting a late record overwrite a viewlink that an update wrote first: the viewlink is written, whatever was there.
-unfoldable pub overwritten : Machine → ℕ → ℕ → ℕ → Machine
+unfoldable pub overwritten : State → ℕ → ℕ → ℕ → State
 overwritten m p k r = withViewlink (recordTaken m p k r) p (number k r) (view m (number k r) .viewlink + 1)
 
 abbrev pub overwriting : Rules
-overwriting = record { preCheck = preChecked; takeRecord = overwritten; takeAck = ackTaken; takeRepair = repairTaken; takeUack = uackTaken }
+overwriting m s = onTakeRecord s (overwritten m) (afterOf m s)
 
 -- The sender's view moves to store 2 and store 1 is told so, before the receiver's record comes there.
 abbrev pub lateRecord : List Step
 lateRecord = S ∷ Receive 0 ∷ sends 0 ++ moves 0 0 0 0 2 ++ settles 0 0 0 2 ++ TakeRepair 0 0 ∷ updates 0 0 1 ++ sends 1 ++ settles 1 0 1 1
 
 -- 2. Finishing an update on a uack from a destination that has since been replaced: any uack counts as the destination's.
-unfoldable pub finishedEarly : Machine → ℕ → ℕ → ℕ → Machine
+unfoldable pub finishedEarly : State → ℕ → ℕ → ℕ → State
 finishedEarly m p k r = let e = entry m (number k r) in withEntry (uackTaken m p k r) (number k r) (finishedEntry (e .destination) e)
 
 abbrev pub finishing : Rules
-finishing = record { preCheck = preChecked; takeRecord = recordTaken; takeAck = ackTaken; takeRepair = repairTaken; takeUack = finishedEarly }
+finishing m s = onTakeUack s (finishedEarly m) (afterOf m s)
 
 -- Store 1 is told that the sender's view moved, then the receiver's view moves too; the uack from 1 comes after the update was
 -- sent on to store 2, and that update is lost.
@@ -48,11 +50,11 @@ replacedDestination =
     ++ moves 1 0 1 1 2 ++ settles 1 0 1 2 ++ TakeRepair 0 1 ∷ SendUpdate 0 0 ∷ TakeUack 1 0 0 ∷ Lose 2 2 0 0 ∷ updates 0 1 2
 
 -- 3. On the second repair, redirecting one entry and leaving the other.
-unfoldable pub oneRedirected : Machine → ℕ → ℕ → Machine
+unfoldable pub oneRedirected : State → ℕ → ℕ → State
 oneRedirected m k r = let o = number k (1 - r) in withEntry (repairTaken m k r) o (entry m o)
 
 abbrev pub leaving : Rules
-leaving = record { preCheck = preChecked; takeRecord = recordTaken; takeAck = ackTaken; takeRepair = oneRedirected; takeUack = uackTaken }
+leaving m s = onTakeRepair s (oneRedirected m) (afterOf m s)
 
 -- Both views move to store 2, and the update for the receiver's goes to store 1.
 abbrev pub secondRepair : List Step
@@ -61,20 +63,20 @@ secondRepair =
     ++ TakeRepair 0 0 ∷ TakeRepair 0 1 ∷ updates 0 0 1 ++ updates 0 1 2
 
 -- 4. Setting cause links at sending only, though the receipt moved stores later: the pre-check leaves them.
-unfoldable pub unchecked : Machine → ℕ → Machine
+unfoldable pub unchecked : State → ℕ → State
 unchecked m a = withView m (head m a) (phased 2 (headView m a))
 
 abbrev pub sendingOnly : Rules
-sendingOnly = record { preCheck = unchecked; takeRecord = recordTaken; takeAck = ackTaken; takeRepair = repairTaken; takeUack = uackTaken }
+sendingOnly m s = onPreCheck s (unchecked m) (afterOf m s)
 
 -- Its run is `movedReceipt`: actor 1 sends an effect of interaction 0, and then its receipt of 0 moves from store 1 to store 2.
 
 -- 5. Accepting an ack from a store that was left: any ack counts as the current store's.
-unfoldable pub acceptedLate : Machine → ℕ → ℕ → ℕ → Machine
+unfoldable pub acceptedLate : State → ℕ → ℕ → ℕ → State
 acceptedLate m p k r = let v = number k r in withView (ackTaken m p k r) v (ackedView m (view m v .store) v)
 
 abbrev pub accepting : Rules
-accepting = record { preCheck = preChecked; takeRecord = recordTaken; takeAck = acceptedLate; takeRepair = repairTaken; takeUack = uackTaken }
+accepting m s = onTakeAck s (acceptedLate m) (afterOf m s)
 
 -- The sender times out from store 0 to store 2, the ack comes from store 0, and the record to store 2 is lost.
 abbrev pub leftStore : List Step

@@ -8,21 +8,22 @@ use native.Mathlib.Omega.{arith}
 use lib.Dec.{eqb}
 use lib.ListN.{length, replicate}
 use borrow.Author.Tests.{eqb-false, not-true}
-use Rattle.machine.specs.Words.{pick}
-use Rattle.machine.specs.Slots.{entry, statusNumber}
-use Rattle.machine.specs.Setup.{answered}
-use Rattle.machine.specs.Unbroken.{Unbroken}
-use Rattle.machine.specs.Broken.{brokenOf}
-use Rattle.machine.specs.declared.Machine.{Machine}
-use Rattle.machine.proofs.Laws.{unbroken}
-use Rattle.rules.specs.Step.{numberOf, afterOf, ruleOf, stepOf}
-use Rattle.rules.specs.declared.Step.{Step}
+use Rattle.protocol.specs.Words.{pick}
+use Rattle.protocol.specs.Slots.{entry, statusNumber}
+use Rattle.protocol.specs.Setup.{answered}
+use Rattle.unbroken.specs.Unbroken.{Unbroken}
+use Rattle.protocol.specs.Broken.{brokenOf}
+use Rattle.protocol.specs.declared.State.{State}
+use Rattle.protocol.specs.declared.View.{View}
+use Rattle.unbroken.proofs.Laws.{unbroken}
+use Rattle.protocol.specs.Step.{numberOf, afterOf, ruleOf, stepOf}
+use Rattle.protocol.specs.declared.Step.{Step}
 use Rattle.keeps.proofs.Keeps.{keeps}
-use Rattle.runs.specs.Run.{ran, answers}
-use Rattle.runs.specs.Drain.{turnOf, Course, stays, after, onTurn, course, allUp, drainOf}
-use Rattle.runs.specs.declared.Drained.{Drained}
-use Rattle.runs.specs.declared.Turn.{Turn}
-use Rattle.runs.specs.declared.Turn.the-variants.{Take, Rest}
+use Rattle.protocol.specs.Run.{ran, answers}
+use Rattle.protocol.specs.Drain.{turnOf, Course, stays, after, onTurn, course, allUp, drainOf}
+use Rattle.protocol.specs.declared.Drained.{Drained}
+use Rattle.protocol.specs.declared.Turn.{Turn}
+use Rattle.protocol.specs.declared.Turn.the-variants.{Take, Rest}
 use Rattle.drains.specs.Drains.{Drainable, TakesEachStep, stepsOf, endOf, DrainEnds, DrainsOnce, CountIsFew}
 use Rattle.drains.proofs.StepsLeft.{Regular}
 use Rattle.drains.proofs.Total.{seenOf, total, total-most}
@@ -30,18 +31,18 @@ use Rattle.drains.proofs.Jobs.{Lowers}
 use Rattle.drains.proofs.Turns.{AtRest, Does, does, rest-closes}
 
 -- a step that the drain takes gives the machine that its rule states
-step-taken : (m : Machine) (s : Step) → brokenOf m ≡ false → numberOf m s ≡ 0 → stepOf m s ≡ answered 0 (afterOf m s)
+step-taken : (m : State) (s : Step) → brokenOf m ≡ false → numberOf m s ≡ 0 → stepOf m s ≡ answered 0 (afterOf m s)
 unfolding stepOf ruleOf
 step-taken m s b e = rw (b, e)
 
 -- the stop bounds the steps of any machine
-course-few : (n : ℕ) (m : Machine) → length (course n m .steps) ≤ n
+course-few : (n : ℕ) (m : State) → length (course n m .steps) ≤ n
 unfolding course
 course-few zero m = omega arith
-course-few (suc n) m = go (turnOf m) (λ s. course-few n (stepOf m s .machine))
+course-few (suc n) m = go (turnOf m) (λ s. course-few n (stepOf m s .state))
   where
-    go : (t : Turn) → ((s : Step) → length (course n (stepOf m s .machine) .steps) ≤ n)
-        → length (onTurn t (stays m) (λ s. after s (course n (stepOf m s .machine))) .steps) ≤ suc n
+    go : (t : Turn) → ((s : Step) → length (course n (stepOf m s .state) .steps) ≤ n)
+        → length (onTurn t (stays m) (λ s. after s (course n (stepOf m s .state))) .steps) ≤ suc n
     go Rest ih = omega arith
     go (Take s) ih = omega (arith, ih s)
 
@@ -49,28 +50,28 @@ pub count-few : CountIsFew
 unfolding drainOf
 count-few m = go (brokenOf m) (allUp m)
   where
-    go : (b c : Bool) → pick {A = Drained} b (record { machine = m; answer = 1; count = 0 })
-        (pick (not c) (record { machine = m; answer = 5; count = 0 }) (record { machine = endOf m; answer = 0; count = length (stepsOf m) })) .count ≤ m .made * 18
+    go : (b c : Bool) → pick {A = Drained} b (record { state = m; answer = 1; count = 0 })
+        (pick (not c) (record { state = m; answer = 5; count = 0 }) (record { state = endOf m; answer = 0; count = length (stepsOf m) })) .count ≤ m .made * 18
     go true c = omega arith
     go false false = omega arith
     go false true = course-few (m .made * 18) m
 
 -- what the drain sees of an unbroken machine's views
-regular : (m : Machine) → Unbroken m → (v : ℕ) → v < m .made * 2 → Regular (seenOf m v)
+regular : (m : State) → Unbroken m → (v : ℕ) → v < m .made * 2 → Regular (seenOf m v)
 unfolding seenOf
 regular m w v h =
     record {
-      fresh = w .changedUnset v (omega (arith, w .made16));
+      fresh = λ e. ap (λ (x : View). x .changed) (w .viewUnset v (omega (arith, w .made16)) e);
       entered = λ e. w .entrySettled v (omega (arith, w .made16)) (some (eqb-false (statusNumber (entry m v .status)) 0 (not-true (eqb (statusNumber (entry m v .status)) 0) e)));
     }
   where
     some : {n : ℕ} → (n ≡ 0 → ⊥) → 1 ≤ n
     some d = omega arith
 
-next : (m : Machine) → Drainable m → Does m (turnOf m)
+next : (m : State) → Drainable m → Does m (turnOf m)
 next m d = does m (unbroken m (d .unbroken)) (d .up)
 
-lowers : (m : Machine) (s : Step) → Drainable m → turnOf m ≡ Take s → Lowers m s
+lowers : (m : State) (s : Step) → Drainable m → turnOf m ≡ Take s → Lowers m s
 lowers m s d e = subst (Does m) e (next m d)
 
 pub takes : TakesEachStep
@@ -79,12 +80,12 @@ takes m s d e =
     record {
       number = l .taken;
       step = step-taken m s (d .unbroken) (l .taken);
-      drainable = record { unbroken = keeps m s (d .unbroken) (l .taken); up = rw (l .up, l .stores) (d .up) };
+      drainable = record { unbroken = keeps m s (d .unbroken) (l .taken); up = l .up ∙ d .up };
       made = l .made;
     }
 
 -- a machine with no step left is at rest
-none-left : (m : Machine) → Drainable m → total m ≤ 0 → turnOf m ≡ Rest
+none-left : (m : State) → Drainable m → total m ≤ 0 → turnOf m ≡ Rest
 none-left m d h = go (turnOf m) refl
   where
     go : (t : Turn) → turnOf m ≡ t → t ≡ Rest
@@ -92,30 +93,30 @@ none-left m d h = go (turnOf m) refl
     go (Take s) e = absurd (omega (arith, lowers m s d e .lower))
 
 -- with room for the steps left the drain comes to rest, and takes every step
-record Comes (m : Machine) (c : Course) : Type 0 where
-  rests : turnOf (c .machine) ≡ Rest
+record Comes (m : State) (c : Course) : Type 0 where
+  rests : turnOf (c .state) ≡ Rest
   count : length (c .steps) ≤ total m
-  run : c .machine ≡ ran m (c .steps)
+  run : c .state ≡ ran m (c .steps)
   taken : answers m (c .steps) ≡ replicate (length (c .steps)) 0
-  drainable : Drainable (c .machine)
-  made : c .machine .made ≡ m .made
+  drainable : Drainable (c .state)
+  made : c .state .made ≡ m .made
 
-comes-resting : (m : Machine) → Drainable m → turnOf m ≡ Rest → Comes m (stays m)
+comes-resting : (m : State) → Drainable m → turnOf m ≡ Rest → Comes m (stays m)
 unfolding ran answers
 comes-resting m d e = record { rests = e; count = omega arith; run = refl; taken = refl; drainable = d; made = refl }
 
-comes : (n : ℕ) (m : Machine) → Drainable m → total m ≤ n → Comes m (course n m)
+comes : (n : ℕ) (m : State) → Drainable m → total m ≤ n → Comes m (course n m)
 unfolding course ran answers
 comes zero m d h = comes-resting m d (none-left m d h)
-comes (suc n) m d h = go (λ s. comes n (stepOf m s .machine)) (turnOf m) refl
+comes (suc n) m d h = go (λ s. comes n (stepOf m s .state)) (turnOf m) refl
   where
-    go : ((s : Step) → Drainable (stepOf m s .machine) → total (stepOf m s .machine) ≤ n → Comes (stepOf m s .machine) (course n (stepOf m s .machine)))
-        → (t : Turn) → turnOf m ≡ t → Comes m (onTurn t (stays m) (λ s. after s (course n (stepOf m s .machine))))
+    go : ((s : Step) → Drainable (stepOf m s .state) → total (stepOf m s .state) ≤ n → Comes (stepOf m s .state) (course n (stepOf m s .state)))
+        → (t : Turn) → turnOf m ≡ t → Comes m (onTurn t (stays m) (λ s. after s (course n (stepOf m s .state))))
     go ih Rest e = comes-resting m d e
     go ih (Take s) e =
         let k = takes m s d e in
-        let same : stepOf m s .machine ≡ afterOf m s = ap (λ r. r .machine) (k .step) in
-        let less : total (stepOf m s .machine) < total m = rw same (lowers m s d e .lower) in
+        let same : stepOf m s .state ≡ afterOf m s = ap (λ r. r .state) (k .step) in
+        let less : total (stepOf m s .state) < total m = rw same (lowers m s d e .lower) in
         let c = ih s (rw same (k .drainable)) (omega arith) in
         record {
           rests = c .rests;
@@ -127,29 +128,29 @@ comes (suc n) m d h = go (λ s. comes n (stepOf m s .machine)) (turnOf m) refl
         }
 
 -- at rest it takes none, whatever the stop
-course-resting : (n : ℕ) (m : Machine) → turnOf m ≡ Rest → course n m ≡ stays m
+course-resting : (n : ℕ) (m : State) → turnOf m ≡ Rest → course n m ≡ stays m
 unfolding course
 course-resting zero m e = refl
 course-resting (suc n) m e = rw e
 
 -- any two stops that leave room for the steps left give the same
-same-course : (n k : ℕ) (m : Machine) → Drainable m → total m ≤ n → total m ≤ k → course n m ≡ course k m
+same-course : (n k : ℕ) (m : State) → Drainable m → total m ≤ n → total m ≤ k → course n m ≡ course k m
 unfolding course
 same-course zero k m d h l = sym (course-resting k m (none-left m d h))
 same-course (suc n) zero m d h l = course-resting (suc n) m (none-left m d l)
-same-course (suc n) (suc k) m d h l = go (λ s. same-course n k (stepOf m s .machine)) (turnOf m) refl
+same-course (suc n) (suc k) m d h l = go (λ s. same-course n k (stepOf m s .state)) (turnOf m) refl
   where
-    go : ((s : Step) → Drainable (stepOf m s .machine) → total (stepOf m s .machine) ≤ n → total (stepOf m s .machine) ≤ k → course n (stepOf m s .machine) ≡ course k (stepOf m s .machine))
+    go : ((s : Step) → Drainable (stepOf m s .state) → total (stepOf m s .state) ≤ n → total (stepOf m s .state) ≤ k → course n (stepOf m s .state) ≡ course k (stepOf m s .state))
         → (t : Turn) → turnOf m ≡ t
-        → onTurn t (stays m) (λ s. after s (course n (stepOf m s .machine))) ≡ onTurn t (stays m) (λ s. after s (course k (stepOf m s .machine)))
+        → onTurn t (stays m) (λ s. after s (course n (stepOf m s .state))) ≡ onTurn t (stays m) (λ s. after s (course k (stepOf m s .state)))
     go ih Rest e = refl
     go ih (Take s) e =
         let t = takes m s d e in
-        let same : stepOf m s .machine ≡ afterOf m s = ap (λ r. r .machine) (t .step) in
-        let less : total (stepOf m s .machine) < total m = rw same (lowers m s d e .lower) in
+        let same : stepOf m s .state ≡ afterOf m s = ap (λ r. r .state) (t .step) in
+        let less : total (stepOf m s .state) < total m = rw same (lowers m s d e .lower) in
         ap (after s) (ih s (rw same (t .drainable)) (omega arith) (omega arith))
 
-drained : (m : Machine) → Drainable m → drainOf m ≡ record { machine = endOf m; answer = 0; count = length (stepsOf m) }
+drained : (m : State) → Drainable m → drainOf m ≡ record { state = endOf m; answer = 0; count = length (stepsOf m) }
 unfolding drainOf
 drained m d = rw (d .unbroken, d .up)
 
@@ -170,7 +171,7 @@ drain-ends m d =
       closes = λ k h. rest-closes (endOf m) rest k (omega (arith, c .made));
     }
 
-drained-resting : (m : Machine) → Drainable m → turnOf m ≡ Rest → drainOf m ≡ record { machine = m; answer = 0; count = 0 }
+drained-resting : (m : State) → Drainable m → turnOf m ≡ Rest → drainOf m ≡ record { state = m; answer = 0; count = 0 }
 unfolding drainOf
 drained-resting m d e = rw (d .unbroken, d .up, course-resting (m .made * 18) m e)
 

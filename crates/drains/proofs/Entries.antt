@@ -3,26 +3,27 @@
 use Prim.Native.Nat.{ℕ, _-_, _*_, _≤_, _<_}
 use mathlib.Core.Path.{_≡_, refl}
 use mathlib.Core.Logic.{_≢_}
-use mathlib.Core.Bool.{Bool, true, false, not, true≢false}
+use mathlib.Core.Bool.{Bool, true, false, _||_, not, true≢false}
 use native.Mathlib.Omega.{arith}
-use lib.Dec.{eqb}
+use lib.Dec.{eqb, leb}
 use lib.ListN.{length, set, length-set}
 use lib.Seq.{getD-set-same, getD-set-other}
 use borrow.Author.Tests.{eq-eqb, lt-leb}
-use Rattle.machine.specs.Slots.{number, place, noRepair, noEntry, statusNumber, isUp, view, repair, entry, updateCopies, uackCopies}
-use Rattle.machine.specs.Unbroken.{Unbroken}
-use Rattle.machine.specs.declared.Machine.{Machine}
-use Rattle.machine.specs.declared.Entry.{Entry}
-use Rattle.machine.specs.declared.Status.{Status}
-use Rattle.machine.specs.declared.Status.the-variants.{Nothing, ToSend, Waiting, Done}
-use Rattle.rules.specs.Rule.{more}
-use Rattle.rules.specs.TakeRepair.{takeRepairNo, repairTaken, entered, repairedEntry, redirectedEntry}
-use Rattle.rules.specs.SendUpdate.{sendUpdateNo, updateSent, inStatus}
-use Rattle.rules.specs.TakeUpdate.{takeUpdateNo, updateTaken}
-use Rattle.rules.specs.TakeUack.{takeUackNo, uackTaken, finishedEntry}
-use Rattle.rules.specs.Expire.{expireNo, expired}
-use Rattle.rules.specs.declared.Step.the-variants.{TakeRepair, SendUpdate, TakeUpdate, TakeUack, Expire}
-use Rattle.runs.specs.Drain.{keyOf, roleOf}
+use Rattle.protocol.specs.Slots.{number, place, noRepair, noEntry, statusNumber, isUp, view, repair, entry, updateCopies, uackCopies}
+use Rattle.unbroken.specs.Unbroken.{Unbroken}
+use Rattle.unbroken.proofs.Shelves.{linked-all}
+use Rattle.protocol.specs.declared.State.{State}
+use Rattle.protocol.specs.declared.Entry.{Entry}
+use Rattle.protocol.specs.declared.Status.{Status}
+use Rattle.protocol.specs.declared.Status.the-variants.{Nothing, ToSend, Waiting, Done}
+use Rattle.protocol.specs.Rule.{more}
+use Rattle.protocol.specs.TakeRepair.{takeRepairNo, repairTaken, entered, repairedEntry, redirectedEntry}
+use Rattle.protocol.specs.SendUpdate.{sendUpdateNo, updateSent, inStatus}
+use Rattle.protocol.specs.TakeUpdate.{takeUpdateNo, updateTaken}
+use Rattle.protocol.specs.TakeUack.{takeUackNo, uackTaken, finishedEntry}
+use Rattle.protocol.specs.Expire.{expireNo, expired}
+use Rattle.protocol.specs.declared.Step.the-variants.{TakeRepair, SendUpdate, TakeUpdate, TakeUack, Expire}
+use Rattle.protocol.specs.Drain.{keyOf, roleOf}
 use Rattle.drains.proofs.StepsLeft.{Seen, seen, stepsLeft, repairToCome, hasEntry, repair-lowers, second-repair-lowers, sendUpdate-lowers, takeUpdate-lowers, takeUack-lowers, expire-lowers}
 use Rattle.drains.proofs.Total.{seenOf, total-less, total-falls, opposite}
 use Rattle.drains.proofs.Jobs.{Lowers, in32, same-number, some-more, place-other}
@@ -46,7 +47,7 @@ waiting ToSend e = absurd (omega arith)
 waiting Waiting e = refl
 waiting Done e = absurd (omega arith)
 
-module _ (m : Machine) (w : Unbroken m) (v : ℕ) (hv : v < m .made * 2) where
+module _ (m : State) (w : Unbroken m) (v : ℕ) (hv : v < m .made * 2) where
   abbrev s : Seen
   s = seenOf m v
 
@@ -218,7 +219,7 @@ module _ (m : Machine) (w : Unbroken m) (v : ℕ) (hv : v < m .made * 2) where
                   getD-set-other (m .uacks) (place p v) (place (entry m u .destination) u) d 0 (elsewhere u l e),
                 ))
                 (takeUpdate-lowers t none (s .changed) (s .ack) (s .sent) _);
-            up = refl;
+            up = linked-all (m .shelves) p (number (keyOf v) (1 - roleOf v)) _ (λ q b. leb (m .stores) q || b);
             stores = refl;
             made = refl;
           }

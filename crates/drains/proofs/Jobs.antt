@@ -3,39 +3,41 @@
 use Prim.Native.Nat.{ℕ, _+_, _-_, _*_, _≤_, _<_}
 use mathlib.Core.Path.{_≡_, refl, ap, _∙_}
 use mathlib.Core.Logic.{_≢_}
-use mathlib.Core.Bool.{Bool, true, false, not}
+use mathlib.Core.Bool.{Bool, true, false, _||_, not}
 use native.Mathlib.Omega.{arith}
-use lib.Dec.{eqb, ltb}
+use lib.Dec.{eqb, ltb, leb}
 use lib.ListN.{length}
 use lib.Seq.{getD-set-same, getD-set-other}
 use borrow.Author.Tests.{eq-eqb, ne-eqb, lt-leb, ltb-false}
-use Rattle.machine.specs.Words.{pick, bit}
-use Rattle.machine.specs.Slots.{number, place, noView, noRepair, isUp, list, queue, view, repair, recordCopies, ackCopies}
-use Rattle.machine.specs.Writes.{withView, withRecordCopies, withAckCopies}
-use Rattle.machine.specs.Unbroken.{Unbroken}
-use Rattle.machine.specs.declared.Machine.{Machine}
-use Rattle.machine.specs.declared.View.{View}
-use Rattle.machine.specs.declared.Repair.{Repair}
-use Rattle.rules.specs.Rule.{head, phased, more}
-use Rattle.rules.specs.Receive.{receiveNo, receivedOf, receivedView}
-use Rattle.rules.specs.PreCheck.{preCheckNo, preChecked, checkedView}
-use Rattle.rules.specs.SendRecord.{sendRecordNo, recordSent}
-use Rattle.rules.specs.Timeout.{timeoutNo, timedOut, movedView}
-use Rattle.rules.specs.TakeRecord.{takeRecordNo, recordTaken}
-use Rattle.rules.specs.TakeAck.{takeAckNo, ackTaken}
-use Rattle.rules.specs.PostCheck.{postCheckNo, postChecked, askedRepair}
-use Rattle.rules.specs.Step.{numberOf, afterOf}
-use Rattle.rules.specs.declared.Step.{Step}
-use Rattle.rules.specs.declared.Step.the-variants.{Receive, PreCheck, SendRecord, Timeout, TakeRecord, TakeAck, PostCheck}
-use Rattle.runs.specs.Drain.{keyOf, roleOf}
+use Rattle.protocol.specs.Words.{pick, bit}
+use Rattle.protocol.specs.Slots.{number, place, noView, noRepair, isUp, list, queue, view, repair, recordCopies, ackCopies}
+use Rattle.protocol.specs.Writes.{withView, withRecordCopies, withAckCopies}
+use Rattle.unbroken.specs.Unbroken.{Unbroken}
+use Rattle.unbroken.proofs.Shelves.{linked-all}
+use Rattle.protocol.specs.declared.State.{State}
+use Rattle.protocol.specs.declared.View.{View}
+use Rattle.protocol.specs.declared.Repair.{Repair}
+use Rattle.protocol.specs.Views.{phased}
+use Rattle.protocol.specs.Rule.{head, more}
+use Rattle.protocol.specs.Receive.{receiveNo, receivedOf, receivedView}
+use Rattle.protocol.specs.PreCheck.{preCheckNo, preChecked, checkedView}
+use Rattle.protocol.specs.SendRecord.{sendRecordNo, recordSent}
+use Rattle.protocol.specs.Timeout.{timeoutNo, timedOut, movedView}
+use Rattle.protocol.specs.TakeRecord.{takeRecordNo, recordTaken}
+use Rattle.protocol.specs.TakeAck.{takeAckNo, ackTaken}
+use Rattle.protocol.specs.PostCheck.{postCheckNo, postChecked, askedRepair}
+use Rattle.protocol.specs.Step.{numberOf, afterOf}
+use Rattle.protocol.specs.declared.Step.{Step}
+use Rattle.protocol.specs.declared.Step.the-variants.{Receive, PreCheck, SendRecord, Timeout, TakeRecord, TakeAck, PostCheck}
+use Rattle.protocol.specs.Drain.{keyOf, roleOf, allUp}
 use Rattle.drains.proofs.StepsLeft.{Seen, seen, receive-lowers, preCheck-lowers, sendRecord-lowers, timeout-lowers, takeRecord-lowers, takeAck-lowers, postCheck-lowers}
 use Rattle.drains.proofs.Total.{seenOf, total, total-falls, opposite}
 
--- a step of the drain that is taken and leaves one step less, with the stores as they were
-pub record Lowers (m : Machine) (s : Step) : Type 0 where
+-- a step of the drain that is taken and leaves one step less, with the stores as up as they were
+pub record Lowers (m : State) (s : Step) : Type 0 where
   pub taken : numberOf m s ≡ 0
   pub lower : total (afterOf m s) < total m
-  pub up : afterOf m s .up ≡ m .up
+  pub up : allUp (afterOf m s) ≡ allUp m
   pub stores : afterOf m s .stores ≡ m .stores
   pub made : afterOf m s .made ≡ m .made
 
@@ -44,7 +46,7 @@ pub same-number : (v : ℕ) → number (keyOf v) (roleOf v) ≡ v
 same-number v = omega arith
 
 -- a view that is made has a slot
-pub in32 : (m : Machine) → Unbroken m → {u : ℕ} → u < m .made * 2 → u < 32
+pub in32 : (m : State) → Unbroken m → {u : ℕ} → u < m .made * 2 → u < 32
 in32 m w l = omega (arith, w .made16)
 
 -- where copies go, there are some
@@ -67,7 +69,7 @@ asked-flies r x e = go (x .changed)
 pub place-other : (p v q u : ℕ) → v < 32 → u < 32 → u ≢ v → place q u ≢ place p v
 place-other p v q u hv hu n e = n (omega arith)
 
-module _ (m : Machine) (w : Unbroken m) (v : ℕ) (hv : v < m .made * 2) where
+module _ (m : State) (w : Unbroken m) (v : ℕ) (hv : v < m .made * 2) where
   abbrev me : Seen
   me = seenOf m v
 
@@ -121,14 +123,14 @@ module _ (m : Machine) (w : Unbroken m) (v : ℕ) (hv : v < m .made * 2) where
         )
 
 -- step 2
-pub receive-good : (m : Machine) → Unbroken m → (k : ℕ) → k < m .made → view m (number k 1) .phase ≡ 0 → Lowers m (Receive k)
+pub receive-good : (m : State) → Unbroken m → (k : ℕ) → k < m .made → view m (number k 1) .phase ≡ 0 → Lowers m (Receive k)
 unfolding receiveNo receivedOf seenOf
 receive-good m w k hk h =
     let v = number k 1 in
     let hv : number k 1 < m .made * 2 = omega arith in
     let x = receivedView m k in
     let s = me m w v hv in
-    let before : s ≡ seen 0 false (s .repair) (s .status) (s .ack) (s .sent) (s .uack) (s .update) = rw (h, w .changedUnset v (in32 m w hv) h) in
+    let before : s ≡ seen 0 false (s .repair) (s .status) (s .ack) (s .sent) (s .uack) (s .update) = rw (h, ap (λ (y : View). y .changed) (w .viewUnset v (in32 m w hv) h)) in
     record {
       taken = rw (lt-leb (m .made) k hk, eq-eqb (view m v .phase) 0 h);
       lower = total-falls m (receivedOf m k) refl v hv _ _ before (seen-view m w v hv x) (view-far m w v hv x)
@@ -139,7 +141,7 @@ receive-good m w k hk h =
     }
 
 -- the steps of the head of a queue
-module _ (m : Machine) (w : Unbroken m) (a : ℕ) (ha : a < m .actors) (some : queue m a .len ≢ 0) (hv : head m a < m .made * 2) where
+module _ (m : State) (w : Unbroken m) (a : ℕ) (ha : a < m .actors) (some : queue m a .len ≢ 0) (hv : head m a < m .made * 2) where
   abbrev v : ℕ
   v = head m a
 
@@ -238,9 +240,9 @@ module _ (m : Machine) (w : Unbroken m) (a : ℕ) (ha : a < m .actors) (some : q
             taken = rw (lt-leb (m .stores) (view m v .store) (inStores (omega arith)), lt-leb (m .made) (keyOf v) (omega arith), lt-leb 2 (roleOf v) (omega arith), same-number v, there);
             lower = rw e (total-falls m (withAckCopies (withView m v x) (x .store) v c) refl v hv _ _ before (seen-ack m w v hv x c at) (ack-far m w v hv x c at)
                 (takeAck-lowers _ (s .repair) (s .status) (s .uack) (s .update) (s .changed) (s .sent) _));
-            up = ap (λ (n : Machine). n .up) e;
-            stores = ap (λ (n : Machine). n .stores) e;
-            made = ap (λ (n : Machine). n .made) e;
+            up = ap allUp e;
+            stores = ap (λ (n : State). n .stores) e;
+            made = ap (λ (n : State). n .made) e;
           }
 
       pub takeRecord-good : isUp m (view m v .store) ≡ true → eqb (ackCopies m (view m v .store) v) 0 ≡ true → eqb (recordCopies m (view m v .store) v) 0 ≡ false
@@ -263,7 +265,7 @@ module _ (m : Machine) (w : Unbroken m) (a : ℕ) (ha : a < m .actors) (some : q
                 let o = place-other p v (view m u .store) u (in32 m w hv) (in32 m w l) n in
                 rw (same-number v, getD-set-other (m .records) (place p v) (place (view m u .store) u) c 0 o, getD-set-other (m .acks) (place p v) (place (view m u .store) u) d 0 o))
                 (takeRecord-lowers _ (s .repair) (s .status) (s .uack) (s .update) (s .changed) _);
-            up = refl;
+            up = linked-all (m .shelves) p (number (keyOf v) (roleOf v)) _ (λ q b. leb (m .stores) q || b);
             stores = refl;
             made = refl;
           }

@@ -6,8 +6,8 @@ use native.Mathlib.Omega.{arith}
 use native.Mathlib.Decide.{ℕ-discrete}
 use lib.Dec.{eqb}
 use borrow.Author.Tests.{eqb-true, eqb-false}
-use Rattle.machine.specs.Words.{pick}
-use Rattle.runs.specs.Drain.{lowest}
+use Rattle.protocol.specs.Words.{pick}
+use Rattle.protocol.specs.Drain.{lowest}
 
 -- i is below n and p holds of it, or it is n and none below has p
 pub record Found (n : ℕ) (p : ℕ → Bool) (i : ℕ) : Type 0 where

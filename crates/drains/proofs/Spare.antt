@@ -8,10 +8,10 @@ use native.Mathlib.Omega.{arith}
 use native.Mathlib.Decide.{ℕ-discrete, decLt}
 use lib.Dec.{eqb}
 use borrow.Author.Tests.{ne-eqb, eqb-false}
-use Rattle.machine.specs.Words.{bit}
-use Rattle.machine.specs.Setup.{storesIn}
-use Rattle.machine.specs.EverySlot.{LegalActor}
-use Rattle.runs.specs.Drain.{lowest}
+use Rattle.protocol.specs.Words.{bit}
+use Rattle.protocol.specs.Setup.{storesIn}
+use Rattle.unbroken.specs.EverySlot.{LegalActor}
+use Rattle.protocol.specs.Drain.{lowest}
 use Rattle.drains.proofs.Lowest.{finds}
 use Rattle.drains.proofs.Total.{sum, sum-most}
 

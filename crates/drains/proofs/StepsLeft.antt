@@ -8,10 +8,10 @@ use native.Mathlib.Omega.{arith}
 use native.Mathlib.Decide.{ℕ-discrete}
 use lib.Dec.{eqb}
 use borrow.Author.Tests.{ne-eqb}
-use Rattle.machine.specs.Words.{pick, one}
-use Rattle.machine.specs.Slots.{statusNumber}
-use Rattle.machine.specs.declared.Status.{Status}
-use Rattle.machine.specs.declared.Status.the-variants.{Nothing, ToSend, Waiting, Done}
+use Rattle.protocol.specs.Words.{pick, one}
+use Rattle.protocol.specs.Slots.{statusNumber}
+use Rattle.protocol.specs.declared.Status.{Status}
+use Rattle.protocol.specs.declared.Status.the-variants.{Nothing, ToSend, Waiting, Done}
 
 -- what the drain sees of a view: its job, whether its repair is in flight, its entry, whether copies of an ack and of its record
 -- are at its store, and of a uack and an update at its entry's destination

@@ -7,9 +7,9 @@ use mathlib.Core.Bool.{not}
 use native.Mathlib.Omega.{arith}
 use native.Mathlib.Decide.{ℕ-discrete}
 use lib.Dec.{eqb}
-use Rattle.machine.specs.Slots.{number, view, repair, entry, recordCopies, ackCopies, updateCopies, uackCopies}
-use Rattle.machine.specs.declared.Machine.{Machine}
-use Rattle.runs.specs.Drain.{keyOf, roleOf}
+use Rattle.protocol.specs.Slots.{number, view, repair, entry, recordCopies, ackCopies, updateCopies, uackCopies}
+use Rattle.protocol.specs.declared.State.{State}
+use Rattle.protocol.specs.Drain.{keyOf, roleOf}
 use Rattle.drains.proofs.StepsLeft.{Seen, seen, stepsLeft, left-either, left-most, Regular}
 
 unfoldable pub sum : ℕ → (ℕ → ℕ) → ℕ
@@ -36,27 +36,27 @@ sum-most zero b f h = omega arith
 sum-most (suc n) b f h = omega (arith, h n (omega arith), sum-most n b f (λ j l. h j (omega arith)))
 
 -- what the drain sees of a view
-unfoldable pub seenOf : Machine → ℕ → Seen
+unfoldable pub seenOf : State → ℕ → Seen
 seenOf m v =
     seen (view m v .phase) (view m v .changed) (repair m v .flying) (entry m v .status)
     (not (eqb (ackCopies m (view m v .store) v) 0)) (not (eqb (recordCopies m (view m v .store) v) 0))
     (not (eqb (uackCopies m (entry m v .destination) v) 0)) (not (eqb (updateCopies m (entry m v .destination) v) 0))
 
-abbrev pub leftOf : Machine → ℕ → ℕ
+abbrev pub leftOf : State → ℕ → ℕ
 leftOf m k = stepsLeft (seenOf m (number k 0)) (seenOf m (number k 1))
 
-unfoldable pub total : Machine → ℕ
+unfoldable pub total : State → ℕ
 total m = sum (m .made) (leftOf m)
 
 -- the other view of the interaction
 abbrev pub opposite : ℕ → ℕ
 opposite v = number (keyOf v) (1 - roleOf v)
 
-pub total-most : (m : Machine) → ((v : ℕ) → v < m .made * 2 → Regular (seenOf m v)) → total m ≤ m .made * 18
+pub total-most : (m : State) → ((v : ℕ) → v < m .made * 2 → Regular (seenOf m v)) → total m ≤ m .made * 18
 unfolding total
 total-most m w = sum-most (m .made) 18 (leftOf m) (λ k l. left-most (seenOf m (number k 0)) (seenOf m (number k 1)) (w (number k 0) (omega arith)) (w (number k 1) (omega arith)))
 
-module _ (m n : Machine) (made : n .made ≡ m .made) (v : ℕ) (hv : v < m .made * 2)
+module _ (m n : State) (made : n .made ≡ m .made) (v : ℕ) (hv : v < m .made * 2)
     (low : stepsLeft (seenOf n v) (seenOf n (opposite v)) < stepsLeft (seenOf m v) (seenOf m (opposite v)))
     (far : (u : ℕ) → u < m .made * 2 → u ≢ v → u ≢ opposite v → seenOf n u ≡ seenOf m u) where
   pub total-less : total n < total m
@@ -81,7 +81,7 @@ module _ (m n : Machine) (made : n .made ≡ m .made) (v : ℕ) (hv : v < m .mad
           rw (p, q, left-either (seenOf n (opposite v)) (seenOf n v), left-either (seenOf m (opposite v)) (seenOf m v)) low
 
 -- a step that changes what the drain sees of one view
-module _ (m n : Machine) (made : n .made ≡ m .made) (v : ℕ) (hv : v < m .made * 2) (s t : Seen) (before : seenOf m v ≡ s) (after : seenOf n v ≡ t)
+module _ (m n : State) (made : n .made ≡ m .made) (v : ℕ) (hv : v < m .made * 2) (s t : Seen) (before : seenOf m v ≡ s) (after : seenOf n v ≡ t)
     (far : (u : ℕ) → u < m .made * 2 → u ≢ v → seenOf n u ≡ seenOf m u) (low : stepsLeft t (seenOf m (opposite v)) < stepsLeft s (seenOf m (opposite v))) where
   pub total-falls : total n < total m
   total-falls = total-less m n made v hv (rw (after, far (opposite v) (omega arith) (omega arith), before) low) (λ u l a b. far u l a)

@@ -9,19 +9,19 @@ use native.Mathlib.Decide.{ℕ-discrete, decLt}
 use lib.Dec.{eqb, ltb, leb}
 use lib.ListN.{getD, List·getD-eq-default}
 use borrow.Author.Tests.{lt-leb, ltb-true, ltb-false, eqb-true, eqb-false, not-true, not-false}
-use Rattle.machine.specs.Words.{pick, bit, times}
-use Rattle.machine.specs.Slots.{number, noView, statusNumber, isUp, list, queue, view, repair, entry, recordCopies, ackCopies, updateCopies, uackCopies}
-use Rattle.machine.specs.EverySlot.{SetupKind, none, some, LegalActor}
-use Rattle.machine.specs.Unbroken.{Unbroken}
-use Rattle.machine.specs.Closed.{closedOf, restsOf}
-use Rattle.machine.specs.declared.Machine.{Machine}
-use Rattle.machine.proofs.Laws.Tests.{and-left, and-right, and-both, or-else, nor-left, nor-right}
-use Rattle.machine.proofs.Laws.Every.{all-at}
-use Rattle.rules.specs.Rule.{head}
-use Rattle.rules.specs.declared.Step.the-variants.{Receive, PreCheck, SendRecord, Timeout, TakeRecord, TakeAck, PostCheck, TakeRepair, SendUpdate, TakeUpdate, TakeUack, Expire}
-use Rattle.runs.specs.Drain.{keyOf, roleOf, unreceived, busy, spare, jobStep, repairDue, unfinished, entryDue, entryStep, turnOf, allUp}
-use Rattle.runs.specs.declared.Turn.{Turn}
-use Rattle.runs.specs.declared.Turn.the-variants.{Take, Rest}
+use Rattle.protocol.specs.Words.{pick, bit, times}
+use Rattle.protocol.specs.Slots.{number, noView, noStore, statusNumber, isUp, list, queue, view, repair, entry, recordCopies, ackCopies, updateCopies, uackCopies}
+use Rattle.unbroken.specs.EverySlot.{SetupKind, none, some, LegalActor}
+use Rattle.unbroken.specs.Unbroken.{Unbroken}
+use Rattle.protocol.specs.Closed.{closedOf, restsOf}
+use Rattle.protocol.specs.declared.State.{State}
+use Rattle.unbroken.proofs.Laws.Tests.{and-left, and-right, and-both, or-else, nor-left, nor-right}
+use Rattle.unbroken.proofs.Laws.Every.{all-at}
+use Rattle.protocol.specs.Rule.{head}
+use Rattle.protocol.specs.declared.Step.the-variants.{Receive, PreCheck, SendRecord, Timeout, TakeRecord, TakeAck, PostCheck, TakeRepair, SendUpdate, TakeUpdate, TakeUack, Expire}
+use Rattle.protocol.specs.Drain.{keyOf, roleOf, unreceived, busy, spare, jobStep, repairDue, unfinished, entryDue, entryStep, turnOf, upIn, allUp}
+use Rattle.protocol.specs.declared.Turn.{Turn}
+use Rattle.protocol.specs.declared.Turn.the-variants.{Take, Rest}
 use Rattle.drains.proofs.Lowest.{finds}
 use Rattle.drains.proofs.StepsLeft.{repairToCome}
 use Rattle.drains.proofs.Total.{seenOf, opposite}
@@ -30,16 +30,16 @@ use Rattle.drains.proofs.Entries.{to-send, waiting, takeRepair-good, se
 use Rattle.drains.proofs.Spare.{spare-there}
 
 -- nothing applies: every view made is settled, with no repair in flight and no entry that is to-send or waiting
-pub record AtRest (m : Machine) : Type 0 where
+pub record AtRest (m : State) : Type 0 where
   pub settled : (v : ℕ) → v < m .made * 2 → view m v .phase ≡ 5
   pub idle : (v : ℕ) → v < m .made * 2 → repair m v .flying ≡ false
   pub finished : (v : ℕ) → v < m .made * 2 → unfinished m v ≡ false
 
-abbrev pub Does : Machine → Turn → Type 0
+abbrev pub Does : State → Turn → Type 0
 Does m (Take s) = Lowers m s
 Does m Rest = AtRest m
 
-module _ (m : Machine) (w : Unbroken m) where
+module _ (m : State) (w : Unbroken m) where
   stores8 : m .stores ≤ 8
   stores8 = go (w .setup)
     where
@@ -94,7 +94,7 @@ module _ (m : Machine) (w : Unbroken m) where
     isUp-at : (p : ℕ) → p < m .stores → isUp m p ≡ true
     isUp-at p h =
         or-else (leb (m .stores) p) (isUp m p)
-        (all-at (λ p up. leb (m .stores) p || up) (m .up) false up p (omega (arith, stores8, w .sized .up)))
+        (all-at (upIn (m .stores)) (m .shelves) noStore up p (omega (arith, stores8, w .sized .shelves)))
         (lt-leb (m .stores) p h)
 
     -- (b) the head of a queue
@@ -246,7 +246,7 @@ module _ (m : Machine) (w : Unbroken m) where
             second (all-started received) (ltb (busy m) (m .actors)) refl
 
 -- a machine at rest has every interaction closed
-pub rest-closes : (m : Machine) → AtRest m → (k : ℕ) → k < m .made → closedOf m k ≡ true
+pub rest-closes : (m : State) → AtRest m → (k : ℕ) → k < m .made → closedOf m k ≡ true
 unfolding closedOf
 rest-closes m r k h = and-both (restsOf m (number k 0)) (restsOf m (number k 1)) (rests (number k 0) (omega arith)) (rests (number k 1) (omega arith))
   where

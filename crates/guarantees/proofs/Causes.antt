@@ -10,16 +10,16 @@ use native.Mathlib.Decide.{ℕ-discrete}
 use borrow.Author.Tests.{eq-eqb, eqb-true}
 use lib.Dec.{eqb}
 use lib.ListN.{length, getD, take}
-use Rattle.machine.specs.Words.{bit, one, times}
-use Rattle.machine.specs.Slots.{number, queue, standing, view, home}
-use Rattle.machine.specs.Unbroken.{Unbroken}
-use Rattle.machine.specs.declared.Machine.{Machine}
-use Rattle.machine.specs.declared.View.{View}
-use Rattle.machine.specs.declared.Queue.{Queue}
-use Rattle.rules.specs.Rule.{head}
-use Rattle.rules.specs.PreCheck.{checkedLink}
-use Rattle.rules.specs.declared.Step.{Step}
-use Rattle.machine.proofs.Laws.Every.{table-at}
+use Rattle.protocol.specs.Words.{bit, one, times}
+use Rattle.protocol.specs.Slots.{number, queue, standing, view, home}
+use Rattle.unbroken.specs.Unbroken.{Unbroken}
+use Rattle.protocol.specs.declared.State.{State}
+use Rattle.protocol.specs.declared.View.{View}
+use Rattle.protocol.specs.declared.Queue.{Queue}
+use Rattle.protocol.specs.Rule.{head}
+use Rattle.protocol.specs.PreCheck.{checkedLink}
+use Rattle.protocol.specs.declared.Step.{Step}
+use Rattle.unbroken.proofs.Laws.Every.{table-at}
 use Rattle.guarantees.proofs.Heads.{actors8}
 use Rattle.guarantees.proofs.Turns.{Turn, stays, received, checked, sends, moved, acked, settled}
 
@@ -90,7 +90,7 @@ pub record Cause (home : ℕ) (line : List ℕ) (x y j : ℕ) (effect receipt : 
   pub right : 2 ≤ effect .phase → getD (effect .links) j 0 ≡ receipt .store
 
 -- what a turn leaves alone
-module _ {m : Machine} {s : Step} {v : ℕ} where
+module _ {m : State} {s : Step} {v : ℕ} where
   pub turn-actor : {w : View} → Turn m s v w → w .actor ≡ view m v .actor
   turn-actor stays = refl
   turn-actor (received k e h) = ap (λ (x : ℕ). view m x .actor) (sym e)
@@ -165,7 +165,7 @@ none-stands : (q : Queue) (v : ℕ) → q .len ≡ 0 → times v (standing q) �
 unfolding times
 none-stands q v e h = let z : _≡_ {A = ℕ} 0 1 = sym (ap (λ (n : ℕ). times v (take n (q .views))) e) ∙ h in omega arith
 
-module _ (m : Machine) (u : Unbroken m) (s : Step) (j k : ℕ) (hj : j < 16) (hk : k < m .made) where
+module _ (m : State) (u : Unbroken m) (s : Step) (j k : ℕ) (hj : j < 16) (hk : k < m .made) where
   abbrev x : ℕ
   x = number j 1
 

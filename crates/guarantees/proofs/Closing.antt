@@ -7,12 +7,11 @@ use native.Mathlib.Omega.{arith}
 use native.Mathlib.Decide.{ℕ-discrete}
 use borrow.Author.Tests.{eq-eqb, ne-eqb, eqb-true, eqb-false, not-true}
 use lib.Dec.{eqb}
-use Rattle.machine.specs.Words.{one}
-use Rattle.machine.specs.Slots.{number, statusNumber, view, repair, entry, viewlink}
-use Rattle.machine.specs.Closed.{restsOf, closedOf}
-use Rattle.machine.specs.Unbroken.{Unbroken}
-use Rattle.machine.specs.declared.Machine.{Machine}
-use Rattle.rules.specs.Send.{sent}
+use Rattle.protocol.specs.Slots.{number, statusNumber, view, repair, entry, viewlink}
+use Rattle.protocol.specs.Closed.{restsOf, closedOf}
+use Rattle.unbroken.specs.Unbroken.{Unbroken}
+use Rattle.protocol.specs.declared.State.{State}
+use Rattle.protocol.specs.Send.{sent}
 use Rattle.guarantees.proofs.Local.{Job, Cell, Good, none}
 use Rattle.guarantees.proofs.Whole.{Everywhere}
 use Rattle.guarantees.proofs.Heads.{stores8, and-true, view-made}
@@ -21,13 +20,13 @@ clash : (b : Bool) → b ≡ true → b ≡ false → ⊥
 clash b e f = let z : _≡_ {A = ℕ} 0 1 = cc in omega arith
 
 -- a view that has nothing left to do
-pub record Rests (m : Machine) (v : ℕ) : Type 0 where
+pub record Rests (m : State) (v : ℕ) : Type 0 where
   pub phase : view m v .phase ≡ 5
   pub landed : repair m v .flying ≡ false
   pub sent : statusNumber (entry m v .status) ≢ 1
   pub answered : statusNumber (entry m v .status) ≢ 2
 
-pub rests-of : (m : Machine) (v : ℕ) → restsOf m v ≡ true → Rests m v
+pub rests-of : (m : State) (v : ℕ) → restsOf m v ≡ true → Rests m v
 rests-of m v e =
     let a = and-true (eqb (view m v .phase) 5 && not (repair m v .flying) && not (eqb (statusNumber (entry m v .status)) 1)) (not (eqb (statusNumber (entry m v .status)) 2)) e in
     let b = and-true (eqb (view m v .phase) 5 && not (repair m v .flying)) (not (eqb (statusNumber (entry m v .status)) 1)) (a .0) in
@@ -39,15 +38,15 @@ rests-of m v e =
       answered = eqb-false (statusNumber (entry m v .status)) 2 (not-true (eqb (statusNumber (entry m v .status)) 2) (a .1));
     }
 
-pub rests-to : (m : Machine) (v : ℕ) → Rests m v → restsOf m v ≡ true
+pub rests-to : (m : State) (v : ℕ) → Rests m v → restsOf m v ≡ true
 rests-to m v r =
     rw (eq-eqb (view m v .phase) 5 (r .phase), r .landed, ne-eqb (statusNumber (entry m v .status)) 1 (r .sent), ne-eqb (statusNumber (entry m v .status)) 2 (r .answered))
 
-pub closed-of : (m : Machine) (k : ℕ) → closedOf m k ≡ true → Rests m (number k 0) × Rests m (number k 1)
+pub closed-of : (m : State) (k : ℕ) → closedOf m k ≡ true → Rests m (number k 0) × Rests m (number k 1)
 unfolding closedOf
 closed-of m k e = let a = and-true (restsOf m (number k 0)) (restsOf m (number k 1)) e in (rests-of m (number k 0) (a .0), rests-of m (number k 1) (a .1))
 
-pub closed-to : (m : Machine) (k : ℕ) → Rests m (number k 0) → Rests m (number k 1) → closedOf m k ≡ true
+pub closed-to : (m : State) (k : ℕ) → Rests m (number k 0) → Rests m (number k 1) → closedOf m k ≡ true
 unfolding closedOf
 closed-to m k a b = rw (rests-to m (number k 0) a, rests-to m (number k 1) b)
 
@@ -72,7 +71,7 @@ local {me} {ot} {mc} {oc} a b r s x y t = go (ℕ-discrete (ot .status) 0) (ℕ-
     go (no f) (yes e) = b .finished (t (omega arith)) (omega (arith, b .alone (omega arith) e, a .first (unchanged e) (omega arith) (omega arith)))
     go (no f) (no g) = b .finished (t (omega arith)) (b .paired (omega arith) (omega arith))
 
-pub accurate : (m : Machine) → Unbroken m → Everywhere m → (k r : ℕ) → r < 2 → Rests m (number k r) → Rests m (number k (1 - r)) → viewlink m (view m (number k r) .store) (number k r) ≡ view m (number k (1 - r)) .store + 1
+pub accurate : (m : State) → Unbroken m → Everywhere m → (k r : ℕ) → r < 2 → Rests m (number k r) → Rests m (number k (1 - r)) → viewlink m (view m (number k r) .store) (number k r) ≡ view m (number k (1 - r)) .store + 1
 unfolding Everywhere
 accurate m u inv k r hr a b =
     let hv : number k r < m .made * 2 = view-made m u (number k r) (omega (arith, a .phase)) in

@@ -6,20 +6,20 @@ use Prim.Native.Nat.{ℕ, _-_, _*_, _≤_, _<_}
 use native.Mathlib.Omega.{arith}
 use native.Mathlib.Decide.{ℕ-discrete, decLt}
 use lib.ListN.{length, getD}
-use Rattle.machine.specs.Words.{bit, one}
-use Rattle.machine.specs.Slots.{home, queue, standing, number, view, contents, causeLinks}
-use Rattle.machine.specs.Setup.{freshWith}
-use Rattle.machine.specs.Closed.{closedOf}
-use Rattle.machine.specs.Unbroken.{Unbroken}
-use Rattle.machine.specs.declared.Machine.{Machine}
-use Rattle.machine.specs.declared.Contents.{Contents}
-use Rattle.machine.specs.declared.Setup.{Setup}
-use Rattle.machine.proofs.Laws.{unbroken, fresh-unbroken}
+use Rattle.protocol.specs.Words.{bit, one}
+use Rattle.protocol.specs.Slots.{home, queue, standing, number, view, contents, causeLinks}
+use Rattle.protocol.specs.Setup.{freshWith}
+use Rattle.protocol.specs.Closed.{closedOf}
+use Rattle.unbroken.specs.Unbroken.{Unbroken}
+use Rattle.protocol.specs.declared.State.{State}
+use Rattle.protocol.specs.declared.Contents.{Contents}
+use Rattle.protocol.specs.declared.Setup.{Setup}
+use Rattle.unbroken.proofs.Laws.{unbroken, fresh-unbroken}
 use Rattle.keeps.proofs.Onward.{step-onward, closed-stays}
-use Rattle.rules.specs.Step.{stepOf}
-use Rattle.rules.specs.declared.Step.{Step}
-use Rattle.runs.specs.Run.{ran, freshOf}
-use Rattle.runs.proofs.Some.{ran-append}
+use Rattle.protocol.specs.Step.{stepOf}
+use Rattle.protocol.specs.declared.Step.{Step}
+use Rattle.protocol.specs.Run.{ran, freshOf}
+use Rattle.reads.proofs.Some.{ran-append}
 use Rattle.guarantees.specs.Acknowledged.{Legal, after, accepted, acknowledged, AckedBy}
 use Rattle.guarantees.specs.Guarantees.{OneAcknowledgement, Holds, KeptForEver, CauseLinks, StaysClosed, ViewLinks}
 use Rattle.guarantees.proofs.Whole.{Everywhere, Here}
@@ -29,7 +29,7 @@ use Rattle.guarantees.proofs.Rules.{Homes}
 use Rattle.guarantees.proofs.Heads.{view-made, stores8}
 use Rattle.guarantees.proofs.Reached.{Reached, Causes}
 use Rattle.guarantees.proofs.Steps.{Move, turns-to, unmade, step-reached, moves}
-use Rattle.guarantees.proofs.Acks.{Ack, past, now, yet, ack, accepting, run-reached, stays-past, comes-to}
+use Rattle.guarantees.proofs.Acks.{Ack, past, now, yet, ack, run-reached, stays-past, comes-to}
 use Rattle.guarantees.proofs.Closing.{Rests, closed-of, accurate}
 
 -- a fresh machine has nothing that could be wrong
@@ -55,35 +55,35 @@ same-head : (a b : ℕ) → _≡_ {A = List ℕ} (a ∷ []) (b ∷ []) → a ≡
 same-head a b e = cc
 
 -- what a run keeps of what a store holds
-held-run : (m : Machine) → Reached m → (ss : List Step) (p v : ℕ) → p < 8 → v < 32 → contents m p v .held ≡ true → contents (ran m ss) p v ≡ contents m p v
+held-run : (m : State) → Reached m → (ss : List Step) (p v : ℕ) → p < 8 → v < 32 → contents m p v .held ≡ true → contents (ran m ss) p v ≡ contents m p v
 unfolding ran
 held-run m c [] p v hp hv h = refl
 held-run m c (s ∷ ss) p v hp hv h =
     let e = step-onward m s .held p v hp hv h in
-    held-run (stepOf m s .machine) (step-reached m c s) ss p v hp hv (ap (λ (x : Contents). x .held) e ∙ h) ∙ e
+    held-run (stepOf m s .state) (step-reached m c s) ss p v hp hv (ap (λ (x : Contents). x .held) e ∙ h) ∙ e
 
-links-run : (m : Machine) → Reached m → (ss : List Step) (p k : ℕ) → p < 8 → k < 16 → contents m p (number k 0) .held ≡ true → causeLinks (ran m ss) p k ≡ causeLinks m p k
+links-run : (m : State) → Reached m → (ss : List Step) (p k : ℕ) → p < 8 → k < 16 → contents m p (number k 0) .held ≡ true → causeLinks (ran m ss) p k ≡ causeLinks m p k
 unfolding ran
 links-run m c [] p k hp hk h = refl
 links-run m c (s ∷ ss) p k hp hk h =
     let e = step-onward m s .held p (number k 0) hp (omega arith) h in
-    links-run (stepOf m s .machine) (step-reached m c s) ss p k hp hk (ap (λ (x : Contents). x .held) e ∙ h) ∙ step-onward m s .links p k hp hk h
+    links-run (stepOf m s .state) (step-reached m c s) ss p k hp hk (ap (λ (x : Contents). x .held) e ∙ h) ∙ step-onward m s .links p k hp hk h
 
-closed-run : (m : Machine) → Reached m → (ss : List Step) (k : ℕ) → closedOf m k ≡ true → closedOf (ran m ss) k ≡ true
+closed-run : (m : State) → Reached m → (ss : List Step) (k : ℕ) → closedOf m k ≡ true → closedOf (ran m ss) k ≡ true
 unfolding ran
 closed-run m c [] k h = h
-closed-run m c (s ∷ ss) k h = closed-run (stepOf m s .machine) (step-reached m c s) ss k (closed-stays m s k h)
+closed-run m c (s ∷ ss) k h = closed-run (stepOf m s .state) (step-reached m c s) ss k (closed-stays m s k h)
 
 -- an accepting step, as the turn that it is
-record Accepting (m : Machine) (s : Step) (v p : ℕ) : Type 0 where
+record Accepting (m : State) (s : Step) (v p : ℕ) : Type 0 where
   made : v < m .made * 2
   phase : view m v .phase ≡ 3
   store : view m v .store ≡ p
-  turn : Turn m s v (view (stepOf m s .machine) v)
-  next : view (stepOf m s .machine) v .phase ≡ 4
-  there : view (stepOf m s .machine) v .store ≡ p
+  turn : Turn m s v (view (stepOf m s .state) v)
+  next : view (stepOf m s .state) v .phase ≡ 4
+  there : view (stepOf m s .state) v .store ≡ p
 
-accepts : (m : Machine) → Reached m → (s : Step) (v p : ℕ) → accepted m s v ≡ p ∷ [] → Accepting m s v p
+accepts : (m : State) → Reached m → (s : Step) (v p : ℕ) → accepted m s v ≡ p ∷ [] → Accepting m s v p
 accepts m c s v p e = go (ack m c s v) (moves m c s v)
   where
     u : Unbroken m
@@ -92,7 +92,7 @@ accepts m c s v p e = go (ack m c s v) (moves m c s v)
     nothing : accepted m s v ≡ [] → Accepting m s v p
     nothing f = absurd (let z : _≡_ {A = ℕ} 1 0 = sym (ap length e) ∙ ap length f in let y : ⊥ = omega arith in y)
 
-    go : Ack m s v → Move m s (stepOf m s .machine) v → Accepting m s v p
+    go : Ack m s v → Move m s (stepOf m s .state) v → Accepting m s v p
     go (past a b d f) t = nothing a
     go (yet a b d) t = nothing a
     go (now q k r x y a b d f g) (unmade z) = absurd (omega (arith, z .before))
@@ -104,12 +104,56 @@ flag : (b : Bool) → one b ≡ 1 → b ≡ true
 flag true e = refl
 flag false e = absurd (let z : ⊥ = omega arith in z)
 
+-- a view past its ack: its store holds what its record says
+pub record There (m : State) (k r p : ℕ) : Type 0 where
+  pub made : k < m .made
+  pub past : 4 ≤ view m (number k r) .phase
+  pub store : view m (number k r) .store ≡ p
+  pub low : p < 8
+  pub held : contents m p (number k r) .held ≡ true
+
+pub there : (m : State) → Reached m → (k r : ℕ) → r < 2 → 4 ≤ view m (number k r) .phase → There m k r (view m (number k r) .store)
+unfolding Everywhere
+there m c k r hr h =
+    let x = unbroken m (c .fine) in
+    let hv : number k r < m .made * 2 = view-made m x (number k r) (omega arith) in
+    let hp : view m (number k r) .store < 8 = omega (arith, stores8 m x, x .storeIn (number k r) (omega (arith, x .made16)) (omega arith)) in
+    record {
+      made = omega arith;
+      past = h;
+      store = refl;
+      low = hp;
+      held = flag (contents m (view m (number k r) .store) (number k r) .held) (everywhere-at k r (view m (number k r) .store) (omega arith) hr hp .keptHeld h refl);
+    }
+  where
+    everywhere-at : (k r p : ℕ) → k < m .made → r < 2 → p < 8 → Here m k r p
+    everywhere-at = c .everywhere
+
 module _ (u : Setup) (l : Legal u) where
   pub reached : (steps : List Step) → Reached (after u steps)
   reached steps = run-reached (freshOf u) (fresh-reached u l) steps
 
-  soon : (steps : List Step) (v : ℕ) → 4 ≤ view (after u steps) v .phase → AckedBy u steps v (view (after u steps) v .store)
+  pub soon : (steps : List Step) (v : ℕ) → 4 ≤ view (after u steps) v .phase → AckedBy u steps v (view (after u steps) v .store)
   soon steps v h = comes-to (freshOf u) (fresh-reached u l) steps v (rw (fresh-phase u l v) (omega arith)) .one h
+
+  -- the store that acknowledged a view is its own, now and after any further steps
+  pub acked-at : (steps : List Step) (k r p : ℕ) → r < 2 → AckedBy u steps (number k r) p → There (after u steps) k r p
+  acked-at steps k r p hr a = go (decLt (view (after u steps) (number k r) .phase) 4)
+    where
+      go : Dec (view (after u steps) (number k r) .phase < 4) → There (after u steps) k r p
+      go (yes h) =
+          let e = comes-to (freshOf u) (fresh-reached u l) steps (number k r) (rw (fresh-phase u l (number k r)) (omega arith)) .none h in
+          absurd (let z : _≡_ {A = ℕ} 1 0 = sym (ap length a) ∙ ap length e in let y : ⊥ = omega arith in y)
+      go (no h) =
+          let g : 4 ≤ view (after u steps) (number k r) .phase = omega arith in
+          subst (There (after u steps) k r) (same-head (view (after u steps) (number k r) .store) p (sym (soon steps (number k r) g) ∙ a)) (there (after u steps) (reached steps) k r hr g)
+
+  pub acked-on : (steps further : List Step) (k r p : ℕ) → r < 2 → AckedBy u steps (number k r) p → There (after u (steps ++ further)) k r p
+  acked-on steps further k r p hr a =
+      let t = acked-at steps k r p hr a in
+      let x = stays-past (after u steps) (reached steps) further (number k r) (t .past) in
+      rw (ran-append (freshOf u) steps further)
+      (subst (There (ran (after u steps) further) k r) (x .store ∙ t .store) (there (ran (after u steps) further) (run-reached (after u steps) (reached steps) further) k r hr (x .phase)))
 
   at-most-one : (steps : List Step) (v : ℕ) → length (acknowledged (freshOf u) steps v) ≤ 1
   at-most-one steps v = go (decLt (view (after u steps) v .phase) 4)
@@ -140,11 +184,11 @@ module _ (u : Setup) (l : Legal u) where
           → Cause (home (after u steps) (view (after u steps) (number i 0) .actor)) (standing (queue (after u steps) (view (after u steps) (number i 0) .actor))) (number j 1) (number i 0) j (view (after u steps) (number i 0)) (view (after u steps) (number j 1))
       causes-at steps = reached steps .causes
 
-  kept : (steps : List Step) (step : Step) (k r p : ℕ) → r < 2 → accepted (after u steps) step (number k r) ≡ p ∷ [] → (further : List Step) → Holds (ran (stepOf (after u steps) step .machine) further) p k r (view (after u steps) (number k r))
+  kept : (steps : List Step) (step : Step) (k r p : ℕ) → r < 2 → accepted (after u steps) step (number k r) ≡ p ∷ [] → (further : List Step) → Holds (ran (stepOf (after u steps) step .state) further) p k r (view (after u steps) (number k r))
   unfolding Everywhere
   kept steps step k r p hr e further =
       let m = after u steps in
-      let n = stepOf m step .machine in
+      let n = stepOf m step .state in
       let c = reached steps in
       let d = step-reached m c step in
       let y = unbroken n (d .fine) in
@@ -170,7 +214,7 @@ module _ (u : Setup) (l : Legal u) where
             ∙ ap (λ (w : List ℕ). getD w j 0) (subst (λ (o : ℕ). view n (number k o) .links ≡ view m (number k r) .links) z (turn-links (a .turn) f));
       }
     where
-      everywhere-at : (n : Machine) → Reached n → (k r p : ℕ) → k < n .made → r < 2 → p < 8 → Here n k r p
+      everywhere-at : (n : State) → Reached n → (k r p : ℕ) → k < n .made → r < 2 → p < 8 → Here n k r p
       everywhere-at n d = d .everywhere
 
 pub one-acknowledgement : OneAcknowledgement
@@ -209,7 +253,7 @@ view-links u l steps further k r p q hr e a b =
     let f = rests-in n k (1 - r) (omega arith) (closed-run m c further k e) in
     rw (ran-append (freshOf u) steps further, g ∙ sym (v .store), h ∙ sym (w .store)) (accurate n y (d .everywhere) k r hr o f)
   where
-    rests-in : (n : Machine) (k r : ℕ) → r < 2 → closedOf n k ≡ true → Rests n (number k r)
+    rests-in : (n : State) (k r : ℕ) → r < 2 → closedOf n k ≡ true → Rests n (number k r)
     rests-in n k r h e = go (ℕ-discrete r 0)
       where
         go : Dec (r ≡ 0) → Rests n (number k r)

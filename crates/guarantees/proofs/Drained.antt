@@ -6,24 +6,24 @@ use mathlib.Core.List.{List}
 use borrow.Author.Tests.{eqb-true, eqb-false, not-false}
 use lib.Dec.{eqb, ltb}
 use lib.ListN.{length}
-use Rattle.machine.specs.Words.{pick}
-use Rattle.machine.specs.Closed.{closedOf}
-use Rattle.machine.specs.declared.Machine.{Machine}
-use Rattle.machine.specs.declared.Setup.{Setup}
-use Rattle.machine.proofs.Laws.{only}
-use Rattle.machine.proofs.Laws.Every.{length-table}
-use Rattle.rules.specs.declared.Step.{Step}
-use Rattle.runs.specs.Book.{wellFormed, setupRead, homeRead, listRead, actorsRead}
-use Rattle.runs.specs.Run.{freshOf, legalSetup, stepsRead, bookNo, runOf}
-use Rattle.runs.specs.Drain.{allUp}
-use Rattle.runs.specs.declared.Drained.{Drained}
+use Rattle.protocol.specs.Words.{pick}
+use Rattle.protocol.specs.Closed.{closedOf}
+use Rattle.protocol.specs.declared.State.{State}
+use Rattle.protocol.specs.declared.Setup.{Setup}
+use Rattle.unbroken.proofs.Laws.{only}
+use Rattle.unbroken.proofs.Laws.Every.{length-table}
+use Rattle.protocol.specs.declared.Step.{Step}
+use Rattle.protocol.specs.Book.{wellFormed, setupRead, homeRead, listRead, actorsRead}
+use Rattle.protocol.specs.Run.{freshOf, legalSetup, stepsRead, bookNo, runOf}
+use Rattle.protocol.specs.Drain.{allUp}
+use Rattle.protocol.specs.declared.Drained.{Drained}
 use Rattle.drains.specs.Drains.{Ends, stepsOf}
 use Rattle.drains.proofs.Courses.{drain-ends}
 use Rattle.guarantees.specs.Acknowledged.{Legal, after}
-use Rattle.guarantees.specs.Guarantees.{TheDrain, BookRun, Books, EveryCall}
+use Rattle.guarantees.specs.Guarantees.{TheDrain, BookRun, Books, EveryCall, AnyCall}
 use Rattle.guarantees.proofs.Heads.{pick-zero}
 use Rattle.guarantees.proofs.Demand.{reached}
-use Rattle.runs.proofs.Some.{ran-append}
+use Rattle.reads.proofs.Some.{ran-append}
 
 pub ends : (u : Setup) → Legal u → (steps : List Step) → allUp (after u steps) ≡ true → Ends (after u steps)
 ends u l steps up = drain-ends (after u steps) (record { unbroken = reached u l steps .fine; up = up })
@@ -31,14 +31,14 @@ ends u l steps up = drain-ends (after u steps) (record { unbroken = reached u l 
 pub the-drain : TheDrain
 the-drain u l steps up =
     let e = ends u l steps up in
-    let m = ap (λ (d : Drained). d .machine) (e .result) in
+    let m = ap (λ (d : Drained). d .state) (e .result) in
     record {
       answer = ap (λ (d : Drained). d .answer) (e .result);
-      closes = λ k h. ap (λ (x : Machine). closedOf x k) m ∙ e .closes k h;
+      closes = λ k h. ap (λ (x : State). closedOf x k) m ∙ e .closes k h;
       bound = rw (e .result) (e .count);
       count = ap (λ (d : Drained). d .count) (e .result);
       run = m ∙ e .run ∙ sym (ran-append (freshOf u) steps (stepsOf (after u steps)));
-      made = ap (λ (x : Machine). x .made) m ∙ e .made;
+      made = ap (λ (x : State). x .made) m ∙ e .made;
     }
 
 pub books : Books
@@ -59,21 +59,29 @@ books s room e = go (eqb (bookNo s room) 0) refl
             homes8 = length-table (λ a. pick (ltb a (actorsRead s)) (homeRead s a) 0) 8;
             lists8 = length-table (λ a. pick (ltb a (actorsRead s)) (listRead s a) 0) 8;
           };
-          machine = rw t;
+          state = rw t;
         }
     go false t = absurd (eqb-false (bookNo s room) 0 t (rw t at e))
 
 pub every-call : EveryCall
 every-call =
     record {
-      broken = λ m. only _;
-      empty = only _;
-      setup = λ u. only _;
       status = λ s. only _;
+      legal = λ u. only _;
+      fresh = λ u. only _;
+      empty = only _;
+      broken = λ m. only _;
+      setup = λ u. only _;
       step = λ m s. only _;
-      steps = λ m steps n. only _;
-      run = λ book room. only _;
-      buffer = λ book buffer. only _;
+      steps = λ m steps. only _;
+      answers = λ m steps. only _;
       drain = λ m. only _;
       walk = λ m k. only _;
+      run = λ book room. only _;
+      buffer = λ book buffer. only _;
+      refused = λ n. only _;
+      listing = λ m steps taken. only _;
     }
+
+pub any-call : AnyCall
+any-call A d = only d

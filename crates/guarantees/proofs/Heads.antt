@@ -7,12 +7,12 @@ use native.Mathlib.Omega.{arith}
 use native.Mathlib.Decide.{decLt}
 use lib.Dec.{T}
 use lib.ListN.{List·getD-eq-default}
-use Rattle.machine.specs.Words.{pick}
-use Rattle.machine.specs.Slots.{noView, queue, view}
-use Rattle.machine.specs.EverySlot.{SetupKind}
-use Rattle.machine.specs.Unbroken.{Unbroken}
-use Rattle.machine.specs.declared.Machine.{Machine}
-use Rattle.rules.specs.Rule.{head, headView}
+use Rattle.protocol.specs.Words.{pick}
+use Rattle.protocol.specs.Slots.{noView, queue, view}
+use Rattle.unbroken.specs.EverySlot.{SetupKind}
+use Rattle.unbroken.specs.Unbroken.{Unbroken}
+use Rattle.protocol.specs.declared.State.{State}
+use Rattle.protocol.specs.Rule.{head, headView}
 use Rattle.keeps.specs.Taken.{HeadIn}
 
 pub absurd-eq : {A : Type 0} → true ≡ false → A
@@ -34,7 +34,7 @@ abbrev pub roleOf : ℕ → ℕ
 roleOf v = v % 2
 
 -- the head of a's queue is a view of this machine, in the phase n
-pub record Headed (m : Machine) (a n : ℕ) : Type 0 where
+pub record Headed (m : State) (a n : ℕ) : Type 0 where
   pub actor : a < m .actors
   pub some : 0 < queue m a .len
   pub phase : headView m a .phase ≡ n
@@ -42,7 +42,7 @@ pub record Headed (m : Machine) (a n : ℕ) : Type 0 where
   pub owner : headView m a .actor ≡ a
 
 -- a view that isn't in phase 0 is one of this machine
-pub view-made : (m : Machine) → Unbroken m → (v : ℕ) → 1 ≤ view m v .phase → v < m .made * 2
+pub view-made : (m : State) → Unbroken m → (v : ℕ) → 1 ≤ view m v .phase → v < m .made * 2
 view-made m u v h = go (decLt v (m .made * 2))
   where
     go : Dec (v < m .made * 2) → v < m .made * 2
@@ -59,13 +59,13 @@ setup-most : {stores actors : ℕ} {homes lists : List ℕ} → SetupKind stores
 setup-most (SetupKind.none e f) = (omega arith, omega arith)
 setup-most (SetupKind.some l) = (l .stores8, l .actors8)
 
-pub actors8 : (m : Machine) → Unbroken m → m .actors ≤ 8
+pub actors8 : (m : State) → Unbroken m → m .actors ≤ 8
 actors8 m u = setup-most (u .setup) .1
 
-pub stores8 : (m : Machine) → Unbroken m → m .stores ≤ 8
+pub stores8 : (m : State) → Unbroken m → m .stores ≤ 8
 stores8 m u = setup-most (u .setup) .0
 
-pub headed : (m : Machine) → Unbroken m → (a n : ℕ) → HeadIn n m a → Headed m a n
+pub headed : (m : State) → Unbroken m → (a n : ℕ) → HeadIn n m a → Headed m a n
 headed m u a n h =
     let g = actors8 m u in
     let b : a < 8 = omega (arith, h .actorIn) in

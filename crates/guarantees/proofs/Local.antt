@@ -3,7 +3,7 @@
 use mathlib.Core.Path.{_≡_, refl}
 use Prim.Native.Nat.{ℕ, zero, suc, _+_, _≤_, _<_}
 use native.Mathlib.Omega.{arith}
-use Rattle.machine.specs.Words.{pick}
+use Rattle.protocol.specs.Words.{pick}
 use lib.Dec.{eqb, eqb·suc-zero}
 
 -- a view's record, its repair and its entry, as numbers (a flag is 0 or 1)

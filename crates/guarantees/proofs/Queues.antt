@@ -9,38 +9,39 @@ use native.Mathlib.Decide.{ℕ-discrete}
 use lib.Dec.{eqb}
 use lib.ListN.{length, getD, set, take, drop}
 use lib.Seq.{getD-set-same, getD-set-other, take-suc-set, take-append-le}
-use Rattle.machine.specs.Words.{pick}
-use Rattle.machine.specs.Slots.{number, queue, standing, view, noView, noQueue}
-use Rattle.machine.specs.Writes.{withRecordCopies, withAckCopies, withUpdateCopies, withUackCopies}
-use Rattle.machine.specs.Unbroken.{Unbroken}
-use Rattle.machine.specs.Bounds.{Bounds}
-use Rattle.machine.specs.declared.Machine.{Machine}
-use Rattle.machine.specs.declared.Queue.{Queue}
-use Rattle.rules.specs.Rule.{head, headView, phased}
-use Rattle.rules.specs.Send.{sent, joined}
-use Rattle.rules.specs.Receive.{receivedOf}
-use Rattle.rules.specs.PreCheck.{preChecked}
-use Rattle.rules.specs.SendRecord.{recordSent}
-use Rattle.rules.specs.Timeout.{timedOut}
-use Rattle.rules.specs.TakeRecord.{recordTaken}
-use Rattle.rules.specs.TakeAck.{ackTaken}
-use Rattle.rules.specs.PostCheck.{postChecked, left}
-use Rattle.rules.specs.TakeRepair.{repairTaken}
-use Rattle.rules.specs.SendUpdate.{updateSent}
-use Rattle.rules.specs.TakeUpdate.{updateTaken}
-use Rattle.rules.specs.TakeUack.{uackTaken}
-use Rattle.rules.specs.Expire.{expired}
-use Rattle.rules.specs.Lose.{lost, copies}
-use Rattle.rules.specs.Crash.{crashed}
-use Rattle.rules.specs.Restart.{restarted}
-use Rattle.rules.specs.Step.{numberOf, afterOf}
-use Rattle.rules.specs.declared.Step.{Step}
-use Rattle.rules.specs.declared.Step.the-variants.{Send, Receive, PreCheck, SendRecord, Timeout, TakeRecord, TakeAck, PostCheck, TakeRepair, SendUpdate, TakeUpdate, TakeUack, Expire, Lose, Crash, Restart}
+use Rattle.protocol.specs.Words.{pick}
+use Rattle.protocol.specs.Slots.{number, queue, standing, view, noView, noQueue}
+use Rattle.protocol.specs.Writes.{withRecordCopies, withAckCopies, withUpdateCopies, withUackCopies}
+use Rattle.unbroken.specs.Unbroken.{Unbroken}
+use Rattle.unbroken.specs.Bounds.{Bounds}
+use Rattle.protocol.specs.declared.State.{State}
+use Rattle.protocol.specs.declared.Queue.{Queue}
+use Rattle.protocol.specs.Views.{phased}
+use Rattle.protocol.specs.Rule.{head, headView}
+use Rattle.protocol.specs.Send.{sent, joined}
+use Rattle.protocol.specs.Receive.{receivedOf}
+use Rattle.protocol.specs.PreCheck.{preChecked}
+use Rattle.protocol.specs.SendRecord.{recordSent}
+use Rattle.protocol.specs.Timeout.{timedOut}
+use Rattle.protocol.specs.TakeRecord.{recordTaken}
+use Rattle.protocol.specs.TakeAck.{ackTaken}
+use Rattle.protocol.specs.PostCheck.{postChecked, left}
+use Rattle.protocol.specs.TakeRepair.{repairTaken}
+use Rattle.protocol.specs.SendUpdate.{updateSent}
+use Rattle.protocol.specs.TakeUpdate.{updateTaken}
+use Rattle.protocol.specs.TakeUack.{uackTaken}
+use Rattle.protocol.specs.Expire.{expired}
+use Rattle.protocol.specs.Lose.{lost, copies}
+use Rattle.protocol.specs.Crash.{crashed}
+use Rattle.protocol.specs.Restart.{restarted}
+use Rattle.protocol.specs.Step.{numberOf, afterOf}
+use Rattle.protocol.specs.declared.Step.{Step}
+use Rattle.protocol.specs.declared.Step.the-variants.{Send, Receive, PreCheck, SendRecord, Timeout, TakeRecord, TakeAck, PostCheck, TakeRepair, SendUpdate, TakeUpdate, TakeUack, Expire, Lose, Crash, Restart}
 use Rattle.keeps.specs.Taken.{ReceiveTaken}
 use Rattle.keeps.proofs.Conditions.{taken-when}
 use Rattle.guarantees.proofs.Heads.{Headed, headed}
 
-pub data Line (m n : Machine) (a : ℕ) : Type 0 where
+pub data Line (m n : State) (a : ℕ) : Type 0 where
   same : standing (queue n a) ≡ standing (queue m a) → Line m n a
   longer : (v : ℕ) → standing (queue n a) ≡ standing (queue m a) ++ (v ∷ []) → Line m n a
   shorter : standing (queue m a) ≡ head m a ∷ standing (queue n a) → view n (head m a) .phase ≡ 5 → Line m n a
@@ -57,7 +58,7 @@ tail-stands (x ∷ xs) n h = rw (add-one, take-append-le n xs (0 ∷ []) (omega 
 left-stands : (q : Queue) → length (q .views) ≡ 16 → 0 < q .len → q .len ≤ 16 → standing q ≡ getD (q .views) 0 0 ∷ standing (left q)
 left-stands q e h f = let x : q .len ≡ (q .len - 1) + 1 = omega arith in ap (λ (n : ℕ). take n (q .views)) x ∙ tail-stands (q .views) (q .len - 1) (omega arith)
 
-module _ (m : Machine) (u : Unbroken m) (b : Bounds m) (a : ℕ) (ha : a < 8) where
+module _ (m : State) (u : Unbroken m) (b : Bounds m) (a : ℕ) (ha : a < 8) where
   pub lines : (s : Step) → numberOf m s ≡ 0 → Line m (afterOf m s) a
   unfolding sent receivedOf preChecked recordSent timedOut recordTaken ackTaken postChecked repairTaken updateSent updateTaken uackTaken expired lost crashed restarted
   lines (Send from to own word causes) e = go (ℕ-discrete a from)

@@ -7,54 +7,54 @@ use native.Mathlib.Decide.{ℕ-discrete, decLt}
 use borrow.Author.Tests.{eqb-true}
 use lib.Dec.{eqb}
 use lib.ListN.{List·getD-eq-default}
-use Rattle.machine.specs.Words.{pick}
-use Rattle.machine.specs.Slots.{number, view, noView}
-use Rattle.machine.specs.Setup.{answered}
-use Rattle.machine.specs.Broken.{brokenOf}
-use Rattle.machine.specs.Unbroken.{Unbroken}
-use Rattle.machine.specs.declared.Machine.{Machine}
-use Rattle.machine.specs.declared.View.{View}
-use Rattle.machine.proofs.Laws.{unbroken}
-use Rattle.rules.specs.declared.Step.the-variants.{Send}
+use Rattle.protocol.specs.Words.{pick}
+use Rattle.protocol.specs.Slots.{number, view, noView}
+use Rattle.protocol.specs.Setup.{answered}
+use Rattle.protocol.specs.Broken.{brokenOf}
+use Rattle.unbroken.specs.Unbroken.{Unbroken}
+use Rattle.protocol.specs.declared.State.{State}
+use Rattle.protocol.specs.declared.View.{View}
+use Rattle.unbroken.proofs.Laws.{unbroken}
+use Rattle.protocol.specs.declared.Step.the-variants.{Send}
 use Rattle.keeps.proofs.Conditions.{taken-when}
 use Rattle.keeps.proofs.Keeps.{keeps}
-use Rattle.rules.specs.Step.{numberOf, afterOf, ruleOf, stepOf}
-use Rattle.rules.specs.declared.Step.{Step}
+use Rattle.protocol.specs.Step.{numberOf, afterOf, ruleOf, stepOf}
+use Rattle.protocol.specs.declared.Step.{Step}
 use Rattle.guarantees.proofs.Turns.{Turn, stays, turns}
 use Rattle.guarantees.proofs.Reached.{Reached, everywhere-kept, homes-kept, causes-kept, Key, old, new, key, new-sender, new-receiver}
 
 -- what holds of a machine and of what a rule gives when it is taken holds after a step
-pub by-step : (P : Machine → Type 0) (m : Machine) (s : Step) → brokenOf m ≡ false → P m → (numberOf m s ≡ 0 → P (afterOf m s)) → P (stepOf m s .machine)
+pub by-step : (P : State → Type 0) (m : State) (s : Step) → brokenOf m ≡ false → P m → (numberOf m s ≡ 0 → P (afterOf m s)) → P (stepOf m s .state)
 unfolding stepOf ruleOf
 by-step P m s b x f = rw b (go (eqb (numberOf m s) 0) refl)
   where
-    go : (t : Bool) → eqb (numberOf m s) 0 ≡ t → P (pick t (answered 0 (afterOf m s)) (answered (numberOf m s) m) .machine)
+    go : (t : Bool) → eqb (numberOf m s) 0 ≡ t → P (pick t (answered 0 (afterOf m s)) (answered (numberOf m s) m) .state)
     go true e = f (eqb-true (numberOf m s) 0 e)
     go false e = x
 
 -- a view that isn't made is in phase 0, and a step makes it at most queued
-pub record Unmade (m n : Machine) (v : ℕ) : Type 0 where
+pub record Unmade (m n : State) (v : ℕ) : Type 0 where
   pub before : view m v .phase ≡ 0
   pub behind : view n v .phase ≤ 1
 
-pub data Move (m : Machine) (s : Step) (n : Machine) (v : ℕ) : Type 0 where
+pub data Move (m : State) (s : Step) (n : State) (v : ℕ) : Type 0 where
   turns-to : Turn m s v (view n v) → Move m s n v
   unmade : Unmade m n v → Move m s n v
 
-blank-view : (m : Machine) → Unbroken m → (v : ℕ) → m .made * 2 ≤ v → view m v .phase ≡ 0
+blank-view : (m : State) → Unbroken m → (v : ℕ) → m .made * 2 ≤ v → view m v .phase ≡ 0
 blank-view m u v h = go (decLt v 32)
   where
     go : Dec (v < 32) → view m v .phase ≡ 0
     go (yes l) = u .phaseBlank v l h
     go (no n) = ap (λ (w : View). w .phase) (List·getD-eq-default (m .views) noView (omega (arith, u .sized .views)))
 
-pub step-reached : (m : Machine) → Reached m → (s : Step) → Reached (stepOf m s .machine)
+pub step-reached : (m : State) → Reached m → (s : Step) → Reached (stepOf m s .state)
 step-reached m c s =
     by-step Reached m s (c .fine) c
     (λ e. record { fine = keeps m s (c .fine) e; everywhere = everywhere-kept m c s e; homes = homes-kept m c s e; causes = causes-kept m c s e })
 
 -- what a new view is
-made-view : (m : Machine) → Reached m → (s : Step) → numberOf m s ≡ 0 → (v : ℕ) → m .made * 2 ≤ v → view (afterOf m s) v .phase ≤ 1
+made-view : (m : State) → Reached m → (s : Step) → numberOf m s ≡ 0 → (v : ℕ) → m .made * 2 ≤ v → view (afterOf m s) v .phase ≤ 1
 made-view m c s e v h = go (decLt v (afterOf m s .made * 2))
   where
     fresh : Key m s (v / 2) → view (afterOf m s) v .phase ≤ 1
@@ -76,13 +76,13 @@ made-view m c s e v h = go (decLt v (afterOf m s .made * 2))
     go (yes l) = fresh (key m s (v / 2) (omega arith))
     go (no n) = let b = blank-view (afterOf m s) (unbroken (afterOf m s) (keeps m s (c .fine) e)) v (omega arith) in omega arith
 
-pub moves : (m : Machine) → Reached m → (s : Step) (v : ℕ) → Move m s (stepOf m s .machine) v
+pub moves : (m : State) → Reached m → (s : Step) (v : ℕ) → Move m s (stepOf m s .state) v
 moves m c s v = go (decLt v (m .made * 2))
   where
     u : Unbroken m
     u = unbroken m (c .fine)
 
-    go : Dec (v < m .made * 2) → Move m s (stepOf m s .machine) v
+    go : Dec (v < m .made * 2) → Move m s (stepOf m s .state) v
     go (yes l) = turns-to (by-step (λ n. Turn m s v (view n v)) m s (c .fine) stays (λ e. turns m u v l s e))
     go (no n) =
         let b = blank-view m u v (omega arith) in

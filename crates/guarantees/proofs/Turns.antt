@@ -9,36 +9,37 @@ use borrow.Author.Tests.{eqb-true}
 use lib.Dec.{eqb}
 use lib.ListN.{getD, set}
 use lib.Seq.{getD-set-same, getD-set-other}
-use Rattle.machine.specs.Words.{pick}
-use Rattle.machine.specs.Slots.{number, view, noView}
-use Rattle.machine.specs.Writes.{withRecordCopies, withAckCopies, withUpdateCopies, withUackCopies}
-use Rattle.machine.specs.Unbroken.{Unbroken}
-use Rattle.machine.specs.declared.Machine.{Machine}
-use Rattle.machine.specs.declared.View.{View}
-use Rattle.rules.specs.Rule.{head, headView, phased}
-use Rattle.rules.specs.Send.{sent, sentView, awaitedView}
-use Rattle.rules.specs.Receive.{receivedOf, receivedView}
-use Rattle.rules.specs.PreCheck.{preChecked, checkedView}
-use Rattle.rules.specs.SendRecord.{recordSent}
-use Rattle.rules.specs.Timeout.{timedOut, movedView}
-use Rattle.rules.specs.TakeRecord.{recordTaken}
-use Rattle.rules.specs.TakeAck.{ackTaken, accepts, isHead, ackedView}
-use Rattle.rules.specs.PostCheck.{postChecked}
-use Rattle.rules.specs.TakeRepair.{repairTaken}
-use Rattle.rules.specs.SendUpdate.{updateSent}
-use Rattle.rules.specs.TakeUpdate.{updateTaken}
-use Rattle.rules.specs.TakeUack.{uackTaken}
-use Rattle.rules.specs.Expire.{expired}
-use Rattle.rules.specs.Lose.{lost, copies}
-use Rattle.rules.specs.Crash.{crashed}
-use Rattle.rules.specs.Restart.{restarted}
-use Rattle.rules.specs.Step.{numberOf, afterOf}
-use Rattle.rules.specs.declared.Step.{Step}
-use Rattle.rules.specs.declared.Step.the-variants.{Send, Receive, PreCheck, SendRecord, Timeout, TakeRecord, TakeAck, PostCheck, TakeRepair, SendUpdate, TakeUpdate, TakeUack, Expire, Lose, Crash, Restart}
+use Rattle.protocol.specs.Words.{pick}
+use Rattle.protocol.specs.Slots.{number, view, noView}
+use Rattle.protocol.specs.Writes.{withRecordCopies, withAckCopies, withUpdateCopies, withUackCopies}
+use Rattle.unbroken.specs.Unbroken.{Unbroken}
+use Rattle.protocol.specs.declared.State.{State}
+use Rattle.protocol.specs.declared.View.{View}
+use Rattle.protocol.specs.Views.{phased}
+use Rattle.protocol.specs.Rule.{head, headView}
+use Rattle.protocol.specs.Send.{sent, sentView, awaitedView}
+use Rattle.protocol.specs.Receive.{receivedOf, receivedView}
+use Rattle.protocol.specs.PreCheck.{preChecked, checkedView}
+use Rattle.protocol.specs.SendRecord.{recordSent}
+use Rattle.protocol.specs.Timeout.{timedOut, movedView}
+use Rattle.protocol.specs.TakeRecord.{recordTaken}
+use Rattle.protocol.specs.TakeAck.{ackTaken, accepts, isHead, ackedView}
+use Rattle.protocol.specs.PostCheck.{postChecked}
+use Rattle.protocol.specs.TakeRepair.{repairTaken}
+use Rattle.protocol.specs.SendUpdate.{updateSent}
+use Rattle.protocol.specs.TakeUpdate.{updateTaken}
+use Rattle.protocol.specs.TakeUack.{uackTaken}
+use Rattle.protocol.specs.Expire.{expired}
+use Rattle.protocol.specs.Lose.{lost, copies}
+use Rattle.protocol.specs.Crash.{crashed}
+use Rattle.protocol.specs.Restart.{restarted}
+use Rattle.protocol.specs.Step.{numberOf, afterOf}
+use Rattle.protocol.specs.declared.Step.{Step}
+use Rattle.protocol.specs.declared.Step.the-variants.{Send, Receive, PreCheck, SendRecord, Timeout, TakeRecord, TakeAck, PostCheck, TakeRepair, SendUpdate, TakeUpdate, TakeUack, Expire, Lose, Crash, Restart}
 use Rattle.keeps.proofs.Conditions.{taken-when}
 use Rattle.guarantees.proofs.Heads.{Headed, and-true, headed}
 
-pub data Turn (m : Machine) (s : Step) (v : ℕ) : View → Type 0 where
+pub data Turn (m : State) (s : Step) (v : ℕ) : View → Type 0 where
   stays : Turn m s v (view m v)
   received : (k : ℕ) → v ≡ number k 1 → view m v .phase ≡ 0 → Turn m s v (receivedView m k)
   checked : view m v .phase ≡ 1 → v ≡ head m (view m v .actor) → Turn m s v (checkedView m (view m v))
@@ -47,7 +48,7 @@ pub data Turn (m : Machine) (s : Step) (v : ℕ) : View → Type 0 where
   acked : (p k r : ℕ) → s ≡ TakeAck p k r → v ≡ number k r → view m v .phase ≡ 3 → view m v .store ≡ p → Turn m s v (phased 4 (view m v))
   settled : view m v .phase ≡ 4 → v ≡ head m (view m v .actor) → Turn m s v (phased 5 (view m v))
 
-module _ (m : Machine) (u : Unbroken m) (v : ℕ) (h : v < m .made * 2) where
+module _ (m : State) (u : Unbroken m) (v : ℕ) (h : v < m .made * 2) where
   -- one view is written: that one turns, the others stay
   one : (s : Step) (i : ℕ) (w : View) → i < 32 → (v ≡ i → Turn m s v w) → Turn m s v (getD (set (m .views) i w) v noView)
   one s i w hi f = go (ℕ-discrete v i)

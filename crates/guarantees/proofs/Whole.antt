@@ -5,12 +5,12 @@ use mathlib.Core.Logic.{_≢_}
 use Prim.Native.Nat.{ℕ, _-_, _≤_, _<_}
 use native.Mathlib.Omega.{arith}
 use native.Mathlib.Decide.{ℕ-discrete}
-use Rattle.machine.specs.Words.{one}
-use Rattle.machine.specs.Slots.{number, statusNumber, view, repair, entry, message, contents, viewlink, ackCopies, updateCopies, uackCopies}
-use Rattle.machine.specs.declared.Machine.{Machine}
-use Rattle.machine.specs.declared.View.{View}
-use Rattle.machine.specs.declared.Repair.{Repair}
-use Rattle.machine.specs.declared.Entry.{Entry}
+use Rattle.protocol.specs.Words.{one}
+use Rattle.protocol.specs.Slots.{number, statusNumber, view, repair, entry, message, contents, viewlink, ackCopies, updateCopies, uackCopies}
+use Rattle.protocol.specs.declared.State.{State}
+use Rattle.protocol.specs.declared.View.{View}
+use Rattle.protocol.specs.declared.Repair.{Repair}
+use Rattle.protocol.specs.declared.Entry.{Entry}
 use Rattle.guarantees.proofs.Local.{Job, Cell, Good}
 
 abbrev pub jobOf : View → Repair → Entry → Job
@@ -28,20 +28,20 @@ jobOf w r e =
       own = e .own;
     }
 
-abbrev pub job : Machine → ℕ → Job
+abbrev pub job : State → ℕ → Job
 job m v = jobOf (view m v) (repair m v) (entry m v)
 
-abbrev pub cell : Machine → ℕ → ℕ → Cell
+abbrev pub cell : State → ℕ → ℕ → Cell
 cell m p v = record { held = one (contents m p v .held); link = viewlink m p v; acks = ackCopies m p v; updates = updateCopies m p v; uacks = uackCopies m p v }
 
-abbrev pub Here : Machine → ℕ → ℕ → ℕ → Type 0
+abbrev pub Here : State → ℕ → ℕ → ℕ → Type 0
 Here m k r p = Good (job m (number k r)) (cell m p (number k r)) (job m (number k (1 - r))) (cell m p (number k (1 - r))) (message m k .own) p
 
-unfoldable pub Everywhere : Machine → Type 0
+unfoldable pub Everywhere : State → Type 0
 Everywhere m = (k r p : ℕ) → k < m .made → r < 2 → p < 8 → Here m k r p
 
 -- the machine n is m but for the interaction k: the view in role r has the job w and the places c, the other x and d
-pub record Touch (m n : Machine) (k r : ℕ) (w x : Job) (c d : ℕ → Cell) : Type 0 where
+pub record Touch (m n : State) (k r : ℕ) (w x : Job) (c d : ℕ → Cell) : Type 0 where
   pub me : job n (number k r) ≡ w
   pub ot : job n (number k (1 - r)) ≡ x
   pub mc : (p : ℕ) → p < 8 → cell n p (number k r) ≡ c p
@@ -59,7 +59,7 @@ role-two r s h g n = go (ℕ-discrete r 0) (ℕ-discrete s 0)
     go (no a) (yes b) = omega arith
     go (no a) (no b) = absurd (n (let e : r ≡ s = omega arith in e))
 
-module _ (m n : Machine) (k r : ℕ) (w x : Job) (c d : ℕ → Cell) (hr : r < 2) (t : Touch m n k r w x c d) where
+module _ (m n : State) (k r : ℕ) (w x : Job) (c d : ℕ → Cell) (hr : r < 2) (t : Touch m n k r w x c d) where
   -- every interaction of n is k, or one of m
   pub touched : ((j : ℕ) → j < n .made → j ≢ k → j < m .made) → n .made ≤ 16 → Everywhere m
       → ((p : ℕ) → p < 8 → Good w (c p) x (d p) (message n k .own) p)

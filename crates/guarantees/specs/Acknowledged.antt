@@ -5,14 +5,14 @@ use mathlib.Core.Bool.{true, _&&_, not}
 use mathlib.Core.List.{List, [], _∷_, _++_}
 use lib.Dec.{eqb}
 use lib.ListN.{length}
-use Rattle.machine.specs.Words.{pick}
-use Rattle.machine.specs.Slots.{number, view}
-use Rattle.machine.specs.declared.Machine.{Machine}
-use Rattle.machine.specs.declared.Setup.{Setup}
-use Rattle.rules.specs.Step.{stepOf}
-use Rattle.rules.specs.declared.Step.{Step}
-use Rattle.rules.specs.declared.Step.the-variants.{Send, Receive, PreCheck, SendRecord, Timeout, TakeRecord, TakeAck, PostCheck, TakeRepair, SendUpdate, TakeUpdate, TakeUack, Expire, Lose, Crash, Restart}
-use Rattle.runs.specs.Run.{ran, legalSetup, freshOf}
+use Rattle.protocol.specs.Words.{pick}
+use Rattle.protocol.specs.Slots.{number, view}
+use Rattle.protocol.specs.declared.State.{State}
+use Rattle.protocol.specs.declared.Setup.{Setup}
+use Rattle.protocol.specs.Step.{stepOf}
+use Rattle.protocol.specs.declared.Step.{Step}
+use Rattle.protocol.specs.Kinds.{onTakeAck}
+use Rattle.protocol.specs.Run.{ran, legalSetup, freshOf}
 
 -- a legal setup, with a row for each of eight actors
 pub record Legal (u : Setup) : Type 0 where
@@ -21,35 +21,22 @@ pub record Legal (u : Setup) : Type 0 where
   pub lists8 : length (u .lists) ≡ 8
 
 -- A run is a legal setup and a list of steps, any steps; the machine after it is the fold of stepOf.
-abbrev pub after : Setup → List Step → Machine
+abbrev pub after : Setup → List Step → State
 after u steps = ran (freshOf u) steps
 
 -- The store that acknowledged a view is the one whose ack moved that view to phase 4 in step 7:
--- the store of this step if it did so, else none
-unfoldable pub accepted : Machine → Step → ℕ → List ℕ
-accepted m (TakeAck p k r) v =
-    let now = view (stepOf m (TakeAck p k r) .machine) v .phase in
-    pick (eqb (number k r) v && not (eqb (view m v .phase) 4) && eqb now 4) (p ∷ []) []
-accepted m (Send from to own word causes) v = []
-accepted m (Receive k) v = []
-accepted m (PreCheck a) v = []
-accepted m (SendRecord a) v = []
-accepted m (Timeout a p) v = []
-accepted m (TakeRecord p k r) v = []
-accepted m (PostCheck a) v = []
-accepted m (TakeRepair k r) v = []
-accepted m (SendUpdate k r) v = []
-accepted m (TakeUpdate p k r) v = []
-accepted m (TakeUack p k r) v = []
-accepted m (Expire k r) v = []
-accepted m (Lose what p k r) v = []
-accepted m (Crash p) v = []
-accepted m (Restart p) v = []
+-- the store of this step, which made next of m, if it did so, else none
+unfoldable pub acceptedInto : State → State → Step → ℕ → List ℕ
+acceptedInto m next s v =
+    onTakeAck s (λ p k r. pick (eqb (number k r) v && not (eqb (view m v .phase) 4) && eqb (view next v .phase) 4) (p ∷ []) []) []
+
+abbrev pub accepted : State → Step → ℕ → List ℕ
+accepted m s v = acceptedInto m (stepOf m s .state) s v
 
 -- all the stores that acknowledged a view in a run, in order
-unfoldable pub acknowledged : Machine → List Step → ℕ → List ℕ
+unfoldable pub acknowledged : State → List Step → ℕ → List ℕ
 acknowledged m [] v = []
-acknowledged m (step ∷ steps) v = accepted m step v ++ acknowledged (stepOf m step .machine) steps v
+acknowledged m (step ∷ steps) v = accepted m step v ++ acknowledged (stepOf m step .state) steps v
 
 -- in the run, p acknowledged the view: it and no other store, once
 abbrev pub AckedBy : Setup → List Step → ℕ → ℕ → Type 0

@@ -2,9 +2,9 @@
 // the walk of each key, then the drain, and the machine and the walks again.
 use libc::STDIN_FILENO;
 use machine::Machine;
-use rules::Recorder;
-use rules::Step;
-use runs::Ran;
+use protocol::Ran;
+use protocol::State;
+use protocol::Step;
 
 mod print;
 mod views;
@@ -43,14 +43,14 @@ fn walk_line(key: u8, answer: u8, met: [u8; 16], count: u8) {
     print::text(b"\n");
 }
 
-fn walk_of(m: Machine, key: u8) {
+fn walk_of(m: State, key: u8) {
     let w = walk::walk(m, key);
     let met = w.keys;
     walk_line(key, w.answer, met, w.count);
 }
 
 // Each key made, and the one behind the last, which is not in the machine.
-fn walks(m: Machine) {
+fn walks(m: State) {
     let mut key: u8 = 0;
     while key <= 16 {
         if key <= m.made {
@@ -60,27 +60,28 @@ fn walks(m: Machine) {
     }
 }
 
-fn state(m: Machine) {
+fn state(m: State) {
     views::machine(m);
     walks(m);
 }
 
 // Takes step 16 for a store that is down.
-fn restart(m: Machine, store: u8, up: bool) -> Machine {
+fn restart(m: State, store: u8, up: bool) -> State {
     if up {
         return m;
     }
-    let restarted = Recorder { machine: m }.step(Step::Restart { store: store });
-    restarted.machine
+    let restarted = Machine { state: m }.step(Step::Restart { store: store });
+    let after = restarted.machine;
+    after.state
 }
 
-fn restart_all(from: Machine) -> Machine {
+fn restart_all(from: State) -> State {
     let mut m = from;
     let mut p: u8 = 0;
     while p < 8 {
         if p < m.stores {
-            let up = from.up;
-            m = restart(m, p, up[p as usize]);
+            let s = from.shelves[p as usize];
+            m = restart(m, p, s.up);
         }
         p += 1;
     }
@@ -94,22 +95,22 @@ fn drain_line(answer: u8, count: u16) {
     print::text(b"\n");
 }
 
-fn restarted(m: Machine) {
-    let d = runs::drain(restart_all(m));
+fn restarted(m: State) {
+    let d = drain::drain(restart_all(m));
     print::text(b"restarted ");
     drain_line(d.answer, d.count);
-    let after = d.machine;
+    let after = d.state;
     state(after);
 }
 
-fn drained(m: Machine) {
-    let d = runs::drain(m);
+fn drained(m: State) {
+    let d = drain::drain(m);
     drain_line(d.answer, d.count);
     if d.answer == 5 {
         restarted(m);
         return;
     }
-    let after = d.machine;
+    let after = d.state;
     state(after);
 }
 
@@ -127,7 +128,7 @@ fn inspect(ran: Ran, answers: [u8; 4096]) {
         return;
     }
     answers_line(answers, ran.steps);
-    let m = ran.machine;
+    let m = ran.state;
     state(m);
     drained(m);
 }

@@ -2,21 +2,23 @@
 ghost use Prim.Native.Nat.{_<_};
 use super::print;
 use libc::STDOUT_FILENO;
-use machine::Contents;
-use machine::Entry;
-use machine::Links;
-use machine::Machine;
-use machine::Message;
-use machine::Queue;
-use machine::Repair;
-use machine::View;
+use protocol::Contents;
+use protocol::Entry;
+use protocol::Links;
+use protocol::Message;
+use protocol::Queue;
+use protocol::Repair;
+use protocol::State;
+use protocol::Store;
+use protocol::View;
 
 // Bit p for a store p that is up.
-fn up_mask(up: [bool; 8]) -> u64 {
+fn up_mask(shelves: [Store; 8]) -> u64 {
     let mut mask: u64 = 0;
     let mut p: usize = 0;
     while p < 8 {
-        if up[p] {
+        let s = shelves[p];
+        if s.up {
             mask |= 1 << p;
         }
         p += 1;
@@ -47,7 +49,7 @@ fn actor_line(actor: usize, home: u8, list: u8, q: Queue) {
     print::text(b"\n");
 }
 
-fn actors(m: Machine) {
+fn actors(m: State) {
     let mut a: usize = 0;
     while a < 8 {
         if a < m.actors as usize {
@@ -108,7 +110,7 @@ fn repair_line(v: usize, r: Repair) {
 // The line's status: 0 to-send, 1 waiting, 2 done.
 fn entry_line(v: usize, e: Entry) {
     let s = e.status;
-    let status = machine::status_number(s);
+    let status = protocol::status_number(s);
     if status != 0 {
         print::text(b"E");
         print::view(v);
@@ -155,19 +157,20 @@ fn copies_line(p: usize, v: usize, record: u8, ack: u8, update: u8, uack: u8) {
     print::text(b"\n");
 }
 
-fn place_lines(m: Machine, p: usize, v: usize)
+fn place_lines(m: State, p: usize, v: usize)
     requires { ⌜ p < 8 ⌝ }
     requires { ⌜ v < 32 ⌝ }
 {
     let at = p * 32 + v;
+    let s = m.shelves[p];
     let kept = m.links[p * 16 + v / 2];
     let links = kept.to;
     contents_line(p, v, m.contents[at], links);
-    viewlink_line(p, v, m.viewlinks[at]);
+    viewlink_line(p, v, s.viewlinks[v]);
     copies_line(p, v, m.records[at], m.acks[at], m.updates[at], m.uacks[at]);
 }
 
-fn places(m: Machine, v: usize)
+fn places(m: State, v: usize)
     requires { ⌜ v < 32 ⌝ }
 {
     let mut p: usize = 0;
@@ -179,7 +182,7 @@ fn places(m: Machine, v: usize)
     }
 }
 
-fn view_lines(m: Machine, v: usize)
+fn view_lines(m: State, v: usize)
     requires { ⌜ v < 32 ⌝ }
 {
     record_line(v, m.views[v]);
@@ -189,13 +192,13 @@ fn view_lines(m: Machine, v: usize)
     places(m, v);
 }
 
-pub(crate) fn machine(m: Machine) {
-    let up = m.up;
+pub(crate) fn machine(m: State) {
+    let shelves = m.shelves;
     print::text(b"M");
     print::small(m.stores);
     print::small(m.actors);
     print::small(m.made);
-    print::field(up_mask(up));
+    print::field(up_mask(shelves));
     print::text(b"\n");
     actors(m);
     let mut v: usize = 0;

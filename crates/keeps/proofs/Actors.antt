@@ -6,18 +6,19 @@ use native.Mathlib.Omega.{arith}
 use lib.ListN.{getD}
 use lib.Seq.{set-getD}
 use lib.Dec.{eqb}
-use Rattle.machine.specs.Words.{bit}
-use Rattle.machine.specs.Slots.{number, noView, view, queue}
-use Rattle.machine.specs.Writes.{withView, withViews}
-use Rattle.machine.specs.EverySlot.{ViewSlot, EverySlot}
-use Rattle.machine.specs.declared.Machine.{Machine}
-use Rattle.machine.specs.declared.View.{View}
-use Rattle.machine.proofs.Laws.Tests.{not-both, by-test, and-left, and-right}
-use Rattle.machine.proofs.Laws.Every.{length-table, table-at}
-use Rattle.machine.proofs.Laws.Says.{eq-says, zero-splits}
-use Rattle.rules.specs.Rule.{head, headView, phased}
-use Rattle.rules.specs.PreCheck.{checkedLink, checkedView, preChecked}
-use Rattle.rules.specs.Timeout.{movedView, timedOut}
+use Rattle.protocol.specs.Words.{bit}
+use Rattle.protocol.specs.Slots.{number, noView, view, queue}
+use Rattle.protocol.specs.Writes.{withView, withViews}
+use Rattle.unbroken.specs.EverySlot.{ViewSlot, EverySlot}
+use Rattle.protocol.specs.declared.State.{State}
+use Rattle.protocol.specs.declared.View.{View}
+use Rattle.unbroken.proofs.Laws.Tests.{not-both, by-test, and-left, and-right}
+use Rattle.unbroken.proofs.Laws.Every.{length-table, table-at}
+use Rattle.unbroken.proofs.Laws.Says.{eq-says, zero-splits}
+use Rattle.protocol.specs.Views.{phased}
+use Rattle.protocol.specs.Rule.{head, headView}
+use Rattle.protocol.specs.PreCheck.{checkedLink, checkedView, preChecked}
+use Rattle.protocol.specs.Timeout.{movedView, timedOut}
 use Rattle.keeps.specs.Taken.{HeadIn, TimeoutTaken}
 use Rattle.keeps.proofs.Heads.{moved-job, head-from, head-to, head-32, head-made, head-write}
 use Rattle.keeps.proofs.Cases.{pick-case}
@@ -32,11 +33,7 @@ phased-slot w n old low high made c =
       linkBlank = c .linkBlank;
       storeIn = λ h. c .storeIn old;
       viewlinkIn = λ h. c .viewlinkIn old;
-      storeUnset = λ e. absurd (omega arith);
-      viewlinkUnset = λ e. absurd (omega arith);
-      changedUnset = λ e. absurd (omega arith);
-      causesUnset = λ e. absurd (omega arith);
-      wordUnset = λ e. absurd (omega arith);
+      unset = λ e. absurd (omega arith);
       actorIn = c .actorIn;
       phase5 = λ h. high;
       senderMade = λ h r. low;
@@ -46,7 +43,7 @@ phased-slot w n old low high made c =
       phaseBlank = λ h. absurd (omega arith);
     }
 
-module _ (m : Machine) (s : EverySlot m) (a : ℕ) (ha : a < m .actors) (some : 1 ≤ queue m a .len) where
+module _ (m : State) (s : EverySlot m) (a : ℕ) (ha : a < m .actors) (some : 1 ≤ queue m a .len) where
   -- 4, 7: another phase
   pub phase-write : (n : ℕ) → 2 ≤ n → n ≤ 4 → EverySlot (withView m (head m a) (phased n (headView m a)))
   phase-write n low high =
@@ -57,7 +54,7 @@ module _ (m : Machine) (s : EverySlot m) (a : ℕ) (ha : a < m .actors) (some : 
       head-write m s a ha some (phased n (headView m a)) refl (omega arith) high
       (moved-job m s (head m a) hv to (phased n (headView m a)) x low refl refl refl (λ h. refl))
 
-pub timeout-kept : (m : Machine) → EverySlot m → (a p : ℕ) → TimeoutTaken m a p → EverySlot (timedOut m a p)
+pub timeout-kept : (m : State) → EverySlot m → (a p : ℕ) → TimeoutTaken m a p → EverySlot (timedOut m a p)
 unfolding timedOut
 timeout-kept m s a p c =
     let ha = c .head .actorIn in
@@ -75,11 +72,7 @@ timeout-kept m s a p c =
       linkBlank = old .linkBlank;
       storeIn = λ h. c .storeIn;
       viewlinkIn = λ h. old .viewlinkIn from;
-      storeUnset = λ e. absurd (omega arith);
-      viewlinkUnset = λ e. absurd (omega arith);
-      changedUnset = λ e. absurd (omega arith);
-      causesUnset = λ e. absurd (omega arith);
-      wordUnset = λ e. absurd (omega arith);
+      unset = λ e. absurd (omega arith);
       actorIn = old .actorIn;
       phase5 = λ h. omega arith;
       senderMade = λ h r. omega arith;
@@ -90,7 +83,7 @@ timeout-kept m s a p c =
     } in
     head-write m s a ha some w refl (omega arith) (omega arith) (moved-job m s (head m a) hv (head-to m s a ha some) w x (omega arith) refl refl refl (λ h. refl))
 
-pub pre-check-kept : (m : Machine) → EverySlot m → (a : ℕ) → HeadIn 1 m a → EverySlot (preChecked m a)
+pub pre-check-kept : (m : State) → EverySlot m → (a : ℕ) → HeadIn 1 m a → EverySlot (preChecked m a)
 unfolding preChecked
 pre-check-kept m s a c =
     let ha = c .actorIn in
@@ -106,7 +99,7 @@ pre-check-kept m s a c =
     let store : (j : ℕ) → j < 16 → view m (number j 1) .changed ≡ true → view m (number j 1) .store < m .stores =
     λ j h e. s .viewAt (number j 1) (omega arith) .storeIn
     (zero-splits (view m (number j 1) .phase) .fails (by-test (eqb (view m (number j 1) .phase) 0)
-    (λ z. not-both (view m (number j 1) .changed) e (s .viewAt (number j 1) (omega arith) .changedUnset (eq-says (view m (number j 1) .phase) 0 .tells z))) (λ z. z))) in
+    (λ z. not-both (view m (number j 1) .changed) e (ap (λ (w : View). w .changed) (s .viewAt (number j 1) (omega arith) .unset (eq-says (view m (number j 1) .phase) 0 .tells z)))) (λ z. z))) in
     let x : ViewSlot (m .stores) (m .actors) (m .made) (view m (head m a - 1) .actor) (head m a) w =
     record {
       linksLong = length-table (checkedLink m o) 16;
@@ -119,11 +112,7 @@ pre-check-kept m s a c =
           (λ e. not-both (bit (o .causes) j) (and-left (bit (o .causes) j) (view m (number j 1) .changed) e) b) (λ e. old .linkBlank j h b);
       storeIn = λ h. old .storeIn from;
       viewlinkIn = λ h. old .viewlinkIn from;
-      storeUnset = λ e. absurd (omega arith);
-      viewlinkUnset = λ e. absurd (omega arith);
-      changedUnset = λ e. absurd (omega arith);
-      causesUnset = λ e. absurd (omega arith);
-      wordUnset = λ e. absurd (omega arith);
+      unset = λ e. absurd (omega arith);
       actorIn = old .actorIn;
       phase5 = λ h. omega arith;
       senderMade = λ h r. omega arith;
@@ -135,5 +124,5 @@ pre-check-kept m s a c =
     head-write m s a ha some w refl (omega arith) (omega arith) (moved-job m s (head m a) hv (head-to m s a ha some) w x (omega arith) refl refl refl (λ h. absurd (omega arith)))
 
 -- a view that is written as it was
-pub same-view : (m : Machine) (v : ℕ) → withView m v (view m v) ≡ m
+pub same-view : (m : State) (v : ℕ) → withView m v (view m v) ≡ m
 same-view m v = ap (withViews m) (set-getD (m .views) v noView)

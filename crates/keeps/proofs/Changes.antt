@@ -8,41 +8,43 @@ use native.Mathlib.Omega.{arith}
 use lib.Seq.{getD-set-same, set-getD}
 use lib.Dec.{eqb}
 use borrow.Author.Tests.{eqb-true}
-use Rattle.machine.specs.Words.{pick}
-use Rattle.machine.specs.Slots.{number, place, noView, noEntry, noContents, statusNumber, view, queue, entry, recordCopies, ackCopies, updateCopies, uackCopies, contents, viewlink}
-use Rattle.machine.specs.Writes.{withView, withEntry, withEntries, withViewlink, withAckCopies, withUackCopies, withRecordCopies, withUpdateCopies}
-use Rattle.machine.specs.Broken.{brokenOf}
-use Rattle.machine.specs.EverySlot.{EverySlot}
-use Rattle.machine.specs.declared.Machine.{Machine}
-use Rattle.machine.specs.declared.View.{View}
-use Rattle.machine.specs.declared.Entry.{Entry}
-use Rattle.machine.specs.declared.Contents.{Contents}
-use Rattle.machine.specs.declared.Status.{Status}
-use Rattle.machine.specs.declared.Status.the-variants.{ToSend, Waiting, Done}
-use Rattle.machine.proofs.Laws.{slots}
-use Rattle.machine.proofs.Laws.Tests.{and-left, and-right}
-use Rattle.machine.proofs.Laws.Says.{eq-says, zero-splits, not-says, and-says}
-use Rattle.rules.specs.Rule.{head, headView, phased, more}
-use Rattle.rules.specs.SendUpdate.{inStatus, updateSent}
-use Rattle.rules.specs.TakeUack.{finishedEntry, uackTaken}
-use Rattle.rules.specs.TakeUpdate.{updateTaken}
-use Rattle.rules.specs.TakeRecord.{writtenContents, writtenViewlink, recordTaken}
-use Rattle.rules.specs.TakeAck.{isHead, accepts, ackedView, ackTaken}
-use Rattle.rules.specs.SendRecord.{recordSent}
-use Rattle.rules.specs.PreCheck.{checkedView, preChecked}
-use Rattle.rules.specs.Timeout.{movedView, timedOut}
-use Rattle.rules.specs.Expire.{expired}
-use Rattle.rules.specs.Lose.{lost}
-use Rattle.rules.specs.Crash.{crashed}
-use Rattle.rules.specs.Restart.{restarted}
-use Rattle.rules.specs.Step.{numberOf, afterOf, stepOf}
-use Rattle.rules.specs.declared.Step.{Step}
-use Rattle.rules.specs.declared.Step.the-variants.{Send, Receive, PreCheck, SendRecord, Timeout, TakeRecord, TakeAck, PostCheck, TakeRepair, SendUpdate, TakeUpdate, TakeUack, Expire, Lose, Crash, Restart}
+use Rattle.protocol.specs.Words.{pick}
+use Rattle.protocol.specs.Slots.{number, place, noView, noEntry, noContents, statusNumber, view, queue, entry, recordCopies, ackCopies, updateCopies, uackCopies, contents, viewlink}
+use Rattle.protocol.specs.Writes.{withView, withEntry, withEntries, withViewlink, withAckCopies, withUackCopies, withRecordCopies, withUpdateCopies}
+use Rattle.protocol.specs.Broken.{brokenOf}
+use Rattle.unbroken.specs.EverySlot.{EverySlot}
+use Rattle.protocol.specs.declared.State.{State}
+use Rattle.protocol.specs.declared.View.{View}
+use Rattle.protocol.specs.declared.Entry.{Entry}
+use Rattle.protocol.specs.declared.Contents.{Contents}
+use Rattle.protocol.specs.declared.Status.{Status}
+use Rattle.protocol.specs.declared.Status.the-variants.{ToSend, Waiting, Done}
+use Rattle.unbroken.proofs.Laws.{slots}
+use Rattle.unbroken.proofs.Laws.Tests.{and-left, and-right}
+use Rattle.unbroken.proofs.Laws.Says.{eq-says, zero-splits, not-says, and-says}
+use Rattle.protocol.specs.Views.{phased}
+use Rattle.protocol.specs.Rule.{head, headView, more}
+use Rattle.protocol.specs.SendUpdate.{inStatus, updateSent}
+use Rattle.protocol.specs.TakeUack.{finishedEntry, uackTaken}
+use Rattle.protocol.specs.TakeUpdate.{updateTaken}
+use Rattle.protocol.specs.TakeRecord.{writtenContents, writtenViewlink, recordTaken}
+use Rattle.protocol.specs.TakeAck.{isHead, accepts, ackedView, ackTaken}
+use Rattle.protocol.specs.SendRecord.{recordSent}
+use Rattle.protocol.specs.PreCheck.{checkedView, preChecked}
+use Rattle.protocol.specs.Timeout.{movedView, timedOut}
+use Rattle.protocol.specs.Expire.{expired}
+use Rattle.protocol.specs.Lose.{lost}
+use Rattle.protocol.specs.Crash.{crashed}
+use Rattle.protocol.specs.Restart.{restarted}
+use Rattle.protocol.specs.Step.{numberOf, afterOf, stepOf}
+use Rattle.protocol.specs.declared.Step.{Step}
+use Rattle.protocol.specs.declared.Step.the-variants.{Send, Receive, PreCheck, SendRecord, Timeout, TakeRecord, TakeAck, PostCheck, TakeRepair, SendUpdate, TakeUpdate, TakeUack, Expire, Lose, Crash, Restart}
 use Rattle.keeps.specs.Taken.{HeadIn, PlaceOf, TakeRecordTaken, TakeAckTaken, SendUpdateTaken, TakeUpdateTaken, TakeUackTaken, LoseTaken, Taken}
 use Rattle.keeps.specs.Change.{HeadMove, isChecked, isSent, isMoved, isAcked, withFlight, FlightMove, recordComes, recordGoes, ackComes, ackGoes, updateComes, updateGoes, uackComes, uackGoes}
 use Rattle.keeps.specs.Change.{withHeld, LinkMove, isWritten, isUpdated, StatusMove, isWaiting, isExpired, isDone, Change, onUp, onSend, onReceive, onHead, onSettle, onFlight, onHeld, onViewlink, onStatus, onRepair, Changes, nothing, then}
 use Rattle.keeps.proofs.Index.{place-same}
 use Rattle.keeps.proofs.Conditions.{taken-when, waiting}
+use Rattle.unbroken.proofs.Shelves.{link-same}
 use Rattle.keeps.proofs.Writes.{up-write, record-write, ack-write, update-write, uack-write, viewlink-write}
 use Rattle.keeps.proofs.Heads.{head-32, head-from, head-made}
 use Rattle.keeps.proofs.Stores.{fewer-copies, more-copies, store-8, number-32, written-held, holds, linked}
@@ -54,14 +56,14 @@ use Rattle.keeps.proofs.Send.{send-kept}
 use Rattle.keeps.proofs.Cases.{pick-case, step-case}
 
 -- each change keeps every slot
-head-kept : (m : Machine) → EverySlot m → (a : ℕ) (w : View) → HeadMove m a w → EverySlot (withView m (head m a) w)
+head-kept : (m : State) → EverySlot m → (a : ℕ) (w : View) → HeadMove m a w → EverySlot (withView m (head m a) w)
 unfolding preChecked timedOut
 head-kept m s a w (isChecked h) = pre-check-kept m s a h
 head-kept m s a w (isSent h) = phase-write m s a (h .actorIn) (h .queued) 3 (omega arith) (omega arith)
 head-kept m s a w (isMoved p t) = timeout-kept m s a p t
 head-kept m s a w (isAcked p h e c) = phase-write m s a (h .actorIn) (h .queued) 4 (omega arith) (omega arith)
 
-module _ (m : Machine) (s : EverySlot m) where
+module _ (m : State) (s : EverySlot m) where
   place-8 : (p k r : ℕ) → PlaceOf m p k r → p < 8
   place-8 p k r o = store-8 m s p (o .storeIn)
 
@@ -110,7 +112,7 @@ module _ (m : Machine) (s : EverySlot m) where
   status-kept v h t (isExpired e) = let n = ap statusNumber e in status-write m s v h ToSend (omega arith) (omega arith)
   status-kept v h t (isDone p hp e d c) = let n = ap statusNumber e in status-write m s v h Done (omega arith) (omega arith)
 
-pub change-kept : (m n : Machine) → EverySlot m → Change m n → EverySlot n
+pub change-kept : (m n : State) → EverySlot m → Change m n → EverySlot n
 change-kept m n s (onUp p b h) = up-write m s p b (store-8 m s p h) (λ k. absurd (omega arith))
 change-kept m n s (onSend from to own word causes c) = send-kept m s from to own word causes c
 change-kept m n s (onReceive k c) = receive-kept m s k c
@@ -125,20 +127,20 @@ change-kept m n s (onStatus k r t o c) = status-kept m s (number k r) (number-32
 change-kept m n s (onRepair k r c) = take-repair-kept m s k r c
 
 -- one change, and one more
-one : (m n : Machine) → Change m n → Changes m n
+one : (m n : State) → Change m n → Changes m n
 one m n c = then m n nothing c
 
 -- one copy fewer of a record, an ack, an update or a uack
-abbrev fewerOf : Machine → ℕ → ℕ → Bool → Bool → Bool → Machine
+abbrev fewerOf : State → ℕ → ℕ → Bool → Bool → Bool → State
 fewerOf m p v a b c =
     let n = pick a (recordCopies m p v) (pick b (ackCopies m p v) (pick c (updateCopies m p v) (uackCopies m p v))) - 1 in
     pick a (withRecordCopies m p v n) (pick b (withAckCopies m p v n) (pick c (withUpdateCopies m p v n) (withUackCopies m p v n)))
 
 -- a choice of two values for a slot: the change, or the slot as it is
-choose : {A : Type 0} (m : Machine) (write : A → Machine) (c : Bool) (x y : A) → (c ≡ true → Changes m (write x)) → write y ≡ m → Changes m (write (pick c x y))
+choose : {A : Type 0} (m : State) (write : A → State) (c : Bool) (x y : A) → (c ≡ true → Changes m (write x)) → write y ≡ m → Changes m (write (pick c x y))
 choose m write c x y f e = pick-case (λ z. Changes m (write z)) c x y f (λ b. subst (Changes m) (sym e) nothing)
 
-module _ (m : Machine) (s : EverySlot m) where
+module _ (m : State) (s : EverySlot m) where
   send-record-changes : (a : ℕ) → HeadIn 2 m a → Changes m (recordSent m a)
   unfolding recordSent
   send-record-changes a h =
@@ -174,7 +176,7 @@ module _ (m : Machine) (s : EverySlot m) where
       let there : contents m₁ p v .held ≡ true =
       ap (λ (x : Contents). x .held) (place-same (m .contents) p v w noContents (s .sized .contents) hp hv) ∙ written-held m s p k hp hs hk (contents m p v) (view m v) in
       let link : 1 ≤ viewlink m₂ p v =
-      subst (λ (n : ℕ). 1 ≤ n) (sym (place-same (m .viewlinks) p v l 0 (s .sized .viewlinks) hp hv))
+      subst (λ (n : ℕ). 1 ≤ n) (sym (link-same (m .shelves) p v l (s .sized .shelves) (s .storeAt p hp .long) hp hv))
       (pick-case (λ (n : ℕ). 1 ≤ n) (eqb (viewlink m p v) 0) (view m v .viewlink + 1) (viewlink m p v) (λ e. omega arith) (λ e. zero-splits (viewlink m p v) .fails e)) in
       then m₃ _
       (then m₂ m₃
@@ -242,7 +244,7 @@ module _ (m : Machine) (s : EverySlot m) where
       let m₂ = withUackCopies m₁ p v (more (uackCopies m p v)) in
       let o₁ : PlaceOf m₁ p k r = record { storeIn = hs; keyIn = hk; roleIn = hr } in
       let o₂ : PlaceOf m₂ p k r = record { storeIn = hs; keyIn = hk; roleIn = hr } in
-      let link : viewlink m₁ p u ≡ entry m v .own + 1 = place-same (m .viewlinks) p u (entry m v .own + 1) 0 (s .sized .viewlinks) hp hu in
+      let link : viewlink m₁ p u ≡ entry m v .own + 1 = link-same (m .shelves) p u (entry m v .own + 1) (s .sized .shelves) (s .storeAt p hp .long) hp hu in
       then m₂ _
       (then m₁ m₂ (one m m₁ (onViewlink p k u (entry m v .own + 1) hs hk (isUpdated r hr (c .copy))))
       (onFlight (m .records) (m .acks) (m .updates) _ (uackComes p k r o₁ (c .copy) link)))
@@ -281,7 +283,7 @@ module _ (m : Machine) (s : EverySlot m) where
       go false false false h = one m _ (onFlight (m .records) (m .acks) (m .updates) _ (uackGoes p k r o h))
 
 -- the walk through the kinds
-pub taken-changes : (m : Machine) (s : Step) → EverySlot m → Taken m s → Changes m (afterOf m s)
+pub taken-changes : (m : State) (s : Step) → EverySlot m → Taken m s → Changes m (afterOf m s)
 unfolding preChecked timedOut expired crashed restarted
 taken-changes m (Send from to own word causes) e c = one m _ (onSend from to own word causes c)
 taken-changes m (Receive k) e c = one m _ (onReceive k c)
@@ -301,23 +303,23 @@ taken-changes m (Crash p) e c = one m _ (onUp p false (c .storeIn))
 taken-changes m (Restart p) e c = one m _ (onUp p true (c .storeIn))
 
 -- every slot is kept through a chain of changes
-pub changes-kept : (m n : Machine) → EverySlot m → Changes m n → EverySlot n
+pub changes-kept : (m n : State) → EverySlot m → Changes m n → EverySlot n
 changes-kept m n s nothing = s
 changes-kept m n s (then k o c d) = change-kept k o (changes-kept m k s c) d
 
 -- a relation that holds of every change, and of nothing and of one after the other, holds of every step
-module _ (R : Machine → Machine → Type 0) (still : (m : Machine) → R m m) (after : (m n o : Machine) → R m n → R n o → R m o)
-    (each : (m n : Machine) → EverySlot m → Change m n → R m n) where
-  chain : (m n : Machine) → EverySlot m → Changes m n → R m n
+module _ (R : State → State → Type 0) (still : (m : State) → R m m) (after : (m n o : State) → R m n → R n o → R m o)
+    (each : (m n : State) → EverySlot m → Change m n → R m n) where
+  chain : (m n : State) → EverySlot m → Changes m n → R m n
   chain m n s nothing = still m
   chain m n s (then k o c d) = after m k o (chain m k s c) (each k o (changes-kept m k s c) d)
 
-  pub taken-related : (m : Machine) (s : Step) → brokenOf m ≡ false → numberOf m s ≡ 0 → R m (afterOf m s)
+  pub taken-related : (m : State) (s : Step) → brokenOf m ≡ false → numberOf m s ≡ 0 → R m (afterOf m s)
   taken-related m s e z = let u = slots m e in chain m (afterOf m s) u (taken-changes m s u (taken-when m s z))
 
-  pub step-related : (m : Machine) (s : Step) → R m (stepOf m s .machine)
-  step-related m s = step-case m s (λ x. R m (x .machine)) (λ e. still m) (λ e z. taken-related m s e z) (λ e n. still m)
+  pub step-related : (m : State) (s : Step) → R m (stepOf m s .state)
+  step-related m s = step-case m s (λ x. R m (x .state)) (λ e. still m) (λ e z. taken-related m s e z) (λ e n. still m)
 
 -- a property that every change keeps, every step keeps
-pub step-has : (P : Machine → Type 0) → ((m n : Machine) → EverySlot m → Change m n → P m → P n) → (m : Machine) (s : Step) → P m → P (stepOf m s .machine)
+pub step-has : (P : State → Type 0) → ((m n : State) → EverySlot m → Change m n → P m → P n) → (m : State) (s : Step) → P m → P (stepOf m s .state)
 step-has P keep m s = step-related (λ a b. P a → P b) (λ a x. x) (λ a b c f g x. g (f x)) keep m s

@@ -3,34 +3,34 @@ use Prim.Native.Nat.{ℕ, _≤_, _<_}
 use mathlib.Core.Path.{_≡_, refl, sym, ap, _∙_}
 use mathlib.Core.Bool.{Bool, true, _||_, not}
 use native.Mathlib.Omega.{arith}
-use Rattle.machine.specs.Words.{pick, bit}
-use Rattle.machine.specs.Slots.{number, statusNumber, list, isUp, queue, view, repair, entry, recordCopies, ackCopies, updateCopies, uackCopies}
-use Rattle.machine.specs.declared.Machine.{Machine}
-use Rattle.machine.specs.declared.Status.{Status}
-use Rattle.machine.specs.declared.Status.the-variants.{Nothing, ToSend, Waiting, Done}
-use Rattle.machine.proofs.Laws.Tests.{by-test, nor-left, nor-right, nor-both}
-use Rattle.machine.proofs.Laws.Every.{below-at, below-each}
-use Rattle.machine.proofs.Laws.Says.{Says, Splits, lt-says, eq-says, is-says, le-splits, eq-splits, zero-splits, is-splits, and-says, or-says, not-says, not-splits, un-splits, put-says}
-use Rattle.rules.specs.Rule.{refused, outside, headView, headIn}
-use Rattle.rules.specs.Send.{received, causeKnown, causesKnown, sendNo}
-use Rattle.rules.specs.Receive.{receiveNo}
-use Rattle.rules.specs.PreCheck.{preCheckNo}
-use Rattle.rules.specs.SendRecord.{sendRecordNo}
-use Rattle.rules.specs.Timeout.{timeoutNo}
-use Rattle.rules.specs.TakeRecord.{takeRecordNo}
-use Rattle.rules.specs.TakeAck.{takeAckNo}
-use Rattle.rules.specs.PostCheck.{postCheckNo}
-use Rattle.rules.specs.TakeRepair.{takeRepairNo}
-use Rattle.rules.specs.SendUpdate.{sendUpdateNo}
-use Rattle.rules.specs.TakeUpdate.{takeUpdateNo}
-use Rattle.rules.specs.TakeUack.{takeUackNo}
-use Rattle.rules.specs.Expire.{expireNo}
-use Rattle.rules.specs.Lose.{copies, loseNo}
-use Rattle.rules.specs.Crash.{crashNo}
-use Rattle.rules.specs.Restart.{restartNo}
-use Rattle.rules.specs.Step.{numberOf}
-use Rattle.rules.specs.declared.Step.{Step}
-use Rattle.rules.specs.declared.Step.the-variants.{Send, Receive, PreCheck, SendRecord, Timeout, TakeRecord, TakeAck, PostCheck, TakeRepair, SendUpdate, TakeUpdate, TakeUack, Expire, Lose, Crash, Restart}
+use Rattle.protocol.specs.Words.{pick, bit}
+use Rattle.protocol.specs.Slots.{number, statusNumber, list, isUp, queue, view, repair, entry, recordCopies, ackCopies, updateCopies, uackCopies}
+use Rattle.protocol.specs.declared.State.{State}
+use Rattle.protocol.specs.declared.Status.{Status}
+use Rattle.protocol.specs.declared.Status.the-variants.{Nothing, ToSend, Waiting, Done}
+use Rattle.unbroken.proofs.Laws.Tests.{by-test, nor-left, nor-right, nor-both}
+use Rattle.unbroken.proofs.Laws.Every.{below-at, below-each}
+use Rattle.unbroken.proofs.Laws.Says.{Says, Splits, lt-says, eq-says, is-says, le-splits, eq-splits, zero-splits, is-splits, and-says, or-says, not-says, not-splits, un-splits, put-says}
+use Rattle.protocol.specs.Rule.{refused, outside, headView, headIn}
+use Rattle.protocol.specs.Send.{received, causeKnown, causesKnown, sendNo}
+use Rattle.protocol.specs.Receive.{receiveNo}
+use Rattle.protocol.specs.PreCheck.{preCheckNo}
+use Rattle.protocol.specs.SendRecord.{sendRecordNo}
+use Rattle.protocol.specs.Timeout.{timeoutNo}
+use Rattle.protocol.specs.TakeRecord.{takeRecordNo}
+use Rattle.protocol.specs.TakeAck.{takeAckNo}
+use Rattle.protocol.specs.PostCheck.{postCheckNo}
+use Rattle.protocol.specs.TakeRepair.{takeRepairNo}
+use Rattle.protocol.specs.SendUpdate.{sendUpdateNo}
+use Rattle.protocol.specs.TakeUpdate.{takeUpdateNo}
+use Rattle.protocol.specs.TakeUack.{takeUackNo}
+use Rattle.protocol.specs.Expire.{expireNo}
+use Rattle.protocol.specs.Lose.{copies, loseNo}
+use Rattle.protocol.specs.Crash.{crashNo}
+use Rattle.protocol.specs.Restart.{restartNo}
+use Rattle.protocol.specs.Step.{numberOf}
+use Rattle.protocol.specs.declared.Step.{Step}
+use Rattle.protocol.specs.declared.Step.the-variants.{Send, Receive, PreCheck, SendRecord, Timeout, TakeRecord, TakeAck, PostCheck, TakeRepair, SendUpdate, TakeUpdate, TakeUack, Expire, Lose, Crash, Restart}
 use Rattle.keeps.specs.Taken.{HeadIn, PlaceOf, ReceivedBy, SendTaken, ReceiveTaken, TimeoutTaken, TakeRecordTaken, TakeAckTaken, TakeRepairTaken, SendUpdateTaken, TakeUpdateTaken, TakeUackTaken, ExpireTaken, LoseTaken, CrashTaken, RestartTaken, Taken}
 
 -- a number is 0 exactly if a fact holds
@@ -63,23 +63,23 @@ or-splits {a} {b} x y =
     }
 
 -- a test that refuses where its fact doesn't hold
-unless : {b : Bool} {P : Type 0} → Says b P → Splits (not b) (P → ⊥) P
+pub unless : {b : Bool} {P : Type 0} → Says b P → Splits (not b) (P → ⊥) P
 unless s = not-splits (un-splits s)
 
 inside : (x count : ℕ) → Splits (outside x count) (count ≤ x) (x < count)
 inside x count = le-splits count x
 
-head-says : (n : ℕ) (m : Machine) (a : ℕ) → Says (headIn n m a) ((1 ≤ queue m a .len) × (headView m a .phase ≡ n))
+pub head-says : (n : ℕ) (m : State) (a : ℕ) → Says (headIn n m a) ((1 ≤ queue m a .len) × (headView m a .phase ≡ n))
 head-says n m a = and-says (not-says (zero-splits (queue m a .len))) (eq-says (headView m a .phase) n)
 
 -- the heads of 3, 4 and 8
-head-zero : (n : ℕ) (m : Machine) (a : ℕ) → Zero (refused 2 (outside a (m .actors)) (refused 7 (not (headIn n m a)) 0)) (HeadIn n m a)
+head-zero : (n : ℕ) (m : State) (a : ℕ) → Zero (refused 2 (outside a (m .actors)) (refused 7 (not (headIn n m a)) 0)) (HeadIn n m a)
 head-zero n m a =
     zero-put (zero-refused (omega arith) (inside a (m .actors)) (zero-refused (omega arith) (unless (head-says n m a)) zero-taken))
     (λ x. record { actorIn = x .0; queued = x .1 .0 .0; headPhase = x .1 .0 .1 })
     (λ s. (s .actorIn, ((s .queued, s .headPhase), tt)))
 
-to-send : (s : Status) → statusNumber s ≡ 1 → s ≡ ToSend
+pub to-send : (s : Status) → statusNumber s ≡ 1 → s ≡ ToSend
 to-send Nothing e = absurd (omega arith)
 to-send ToSend e = refl
 to-send Waiting e = absurd (omega arith)
@@ -91,7 +91,7 @@ waiting ToSend e = absurd (omega arith)
 waiting Waiting e = refl
 waiting Done e = absurd (omega arith)
 
-module _ (m : Machine) where
+module _ (m : State) where
   view-splits : (k r : ℕ) → Splits (outside k (m .made) || outside r 2) (outside k (m .made) || outside r 2 ≡ true) ((k < m .made) × (r < 2))
   view-splits k r = or-splits (inside k (m .made)) (inside r 2)
 
@@ -108,7 +108,7 @@ module _ (m : Machine) where
   of-place p k r s = ((s .storeIn, s .keyIn), s .roleIn)
 
   -- 1
-  received-says : (a j : ℕ) → Says (received m a j) (ReceivedBy m a j)
+  pub received-says : (a j : ℕ) → Says (received m a j) (ReceivedBy m a j)
   received-says a j =
       put-says (and-says (and-says (lt-says j (m .made)) (not-says (zero-splits (view m (number j 1) .phase)))) (eq-says (view m (number j 1) .actor) a))
       (λ x. record { keyIn = x .0 .0; received = x .0 .1; byActor = x .1 })
@@ -117,7 +117,7 @@ module _ (m : Machine) where
   cause-says : (a causes j : ℕ) → Says (causeKnown m a causes j) (bit causes j ≡ true → ReceivedBy m a j)
   cause-says a causes j = or-says (not-splits (is-splits (bit causes j))) (received-says a j)
 
-  causes-say : (a causes : ℕ) → Says (causesKnown m a causes) ((j : ℕ) → j < 16 → bit causes j ≡ true → ReceivedBy m a j)
+  pub causes-say : (a causes : ℕ) → Says (causesKnown m a causes) ((j : ℕ) → j < 16 → bit causes j ≡ true → ReceivedBy m a j)
   unfolding causesKnown
   causes-say a causes =
       record {

@@ -3,17 +3,17 @@ use Prim.Native.Nat.{ℕ, _-_, _≤_, _<_}
 use mathlib.Core.Path.{_≡_, subst}
 use native.Mathlib.Omega.{arith}
 use lib.Seq.{getD-set-other}
-use Rattle.machine.specs.Words.{pick}
-use Rattle.machine.specs.Slots.{number, statusNumber, view, repair, entry, noEntry, noRepair}
-use Rattle.machine.specs.Writes.{withEntry}
-use Rattle.machine.specs.EverySlot.{EntrySlot, EverySlot}
-use Rattle.machine.specs.declared.Machine.{Machine}
-use Rattle.machine.specs.declared.Entry.{Entry}
-use Rattle.machine.specs.declared.Status.{Status}
-use Rattle.machine.proofs.Laws.Says.{zero-splits, not-says}
-use Rattle.machine.proofs.Laws.Fresh.{blank-repair}
-use Rattle.rules.specs.TakeRepair.{toSend, entered, repairedEntry, redirectedEntry, repairTaken}
-use Rattle.rules.specs.SendUpdate.{inStatus}
+use Rattle.protocol.specs.Words.{pick}
+use Rattle.protocol.specs.Slots.{number, statusNumber, view, repair, entry, noEntry, noRepair}
+use Rattle.protocol.specs.Writes.{withEntry}
+use Rattle.unbroken.specs.EverySlot.{EntrySlot, EverySlot}
+use Rattle.protocol.specs.declared.State.{State}
+use Rattle.protocol.specs.declared.Entry.{Entry}
+use Rattle.protocol.specs.declared.Status.{Status}
+use Rattle.unbroken.proofs.Laws.Says.{zero-splits, not-says}
+use Rattle.unbroken.proofs.Laws.Fresh.{blank-repair}
+use Rattle.protocol.specs.TakeRepair.{toSend, entered, repairedEntry, redirectedEntry, repairTaken}
+use Rattle.protocol.specs.SendUpdate.{inStatus}
 use Rattle.keeps.specs.Taken.{TakeRepairTaken}
 use Rattle.keeps.proofs.Writes.{entry-write, repair-write}
 use Rattle.keeps.proofs.Cases.{pick-case}
@@ -34,7 +34,7 @@ to-send-slot : (stores phase destination own : ℕ) → phase ≡ 5 → destinat
 to-send-slot stores phase destination own e h k =
     record { settled = λ b. e; destinationIn = λ b. h; ownIn = λ b. k; destinationBlank = λ b. absurd (omega arith); ownBlank = λ b. absurd (omega arith) }
 
-module _ (m : Machine) (s : EverySlot m) where
+module _ (m : State) (s : EverySlot m) where
   -- 10, 12, 13: the entry's status
   pub status-write : (v : ℕ) → v < 32 → (t : Status) → 1 ≤ statusNumber (entry m v .status) → 1 ≤ statusNumber t → EverySlot (withEntry m v (inStatus t (entry m v)))
   status-write v hv t some some′ = entry-write m s v hv (inStatus t (entry m v)) (status-slot t (entry m v) some some′ (s .entryAt v hv)) (λ h. some′)

@@ -6,19 +6,19 @@ use mathlib.Core.Logic.{_≢_}
 use mathlib.Core.List.{List}
 use native.Mathlib.Omega.{arith}
 use lib.ListN.{getD, set}
-use Rattle.machine.specs.Words.{times}
-use Rattle.machine.specs.Slots.{noView, standing, view, queue}
-use Rattle.machine.specs.Writes.{withView}
-use Rattle.machine.specs.EverySlot.{ViewSlot, QueueSlot, EverySlot}
-use Rattle.machine.specs.declared.Machine.{Machine}
-use Rattle.machine.specs.declared.View.{View}
-use Rattle.machine.proofs.Laws.Counting.{times-two}
-use Rattle.machine.proofs.Laws.Room.{actors8, view-32, made-view, standing-long, standing-at}
-use Rattle.rules.specs.Rule.{head, headView}
+use Rattle.protocol.specs.Words.{times}
+use Rattle.protocol.specs.Slots.{noView, standing, view, queue}
+use Rattle.protocol.specs.Writes.{withView}
+use Rattle.unbroken.specs.EverySlot.{ViewSlot, QueueSlot, EverySlot}
+use Rattle.protocol.specs.declared.State.{State}
+use Rattle.protocol.specs.declared.View.{View}
+use Rattle.unbroken.proofs.Laws.Counting.{times-two}
+use Rattle.unbroken.proofs.Laws.Room.{actors8, view-32, made-view, standing-long, standing-at}
+use Rattle.protocol.specs.Rule.{head, headView}
 use Rattle.keeps.proofs.Jobs.{Job, job-at, jobs-kept, read-view, actor-same, one-job, views-long, message-same}
 
 -- a view in phases 1 to 4 goes on, to phase 2 or further: what it says stays, and its links unless it is checked first
-module _ (m : Machine) (s : EverySlot m) (v : ℕ) (h : v < 32) (old : view m v .phase ≤ 4) (w : View) where
+module _ (m : State) (s : EverySlot m) (v : ℕ) (h : v < 32) (old : view m v .phase ≤ 4) (w : View) where
   pub moved-job : ViewSlot (m .stores) (m .actors) (m .made) (view m (v - 1) .actor) v w → 2 ≤ w .phase
       → w .actor ≡ view m v .actor → w .causes ≡ view m v .causes → w .word ≡ view m v .word → (2 ≤ view m v .phase → w .links ≡ view m v .links)
       → Job m (m .made) (view m (v - 1) .actor) v w
@@ -60,7 +60,7 @@ module _ (m : Machine) (s : EverySlot m) (v : ℕ) (h : v < 32) (old : view m v 
         };
       }
 
-module _ (m : Machine) (s : EverySlot m) (a : ℕ) (ha : a < m .actors) (some : 1 ≤ queue m a .len) where
+module _ (m : State) (s : EverySlot m) (a : ℕ) (ha : a < m .actors) (some : 1 ≤ queue m a .len) where
   pub actor-8 : a < 8
   actor-8 = let t = actors8 m s in omega arith
 

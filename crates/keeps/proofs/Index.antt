@@ -8,7 +8,7 @@ use native.Mathlib.Omega.{arith}
 use native.Mathlib.Decide.{ℕ-discrete}
 use lib.ListN.{length, getD, set}
 use lib.Seq.{getD-set-same, getD-set-other}
-use Rattle.machine.specs.Slots.{place, linksPlace}
+use Rattle.protocol.specs.Slots.{place, linksPlace}
 
 module _ {A : Type 0} (l : List A) (n j : ℕ) (x d : A) (long : length l ≡ n) (h : j < n) where
   pub same : getD (set l j x) j d ≡ x

@@ -8,18 +8,18 @@ use native.Mathlib.Omega.{arith}
 use native.Mathlib.Decide.{ℕ-discrete}
 use lib.ListN.{length, getD, set, length-set}
 use lib.Seq.{getD-set-same, getD-set-other}
-use Rattle.machine.specs.Words.{times}
-use Rattle.machine.specs.Slots.{number, noView, standing}
-use Rattle.machine.specs.Slots.{view, queue, message, repair, entry, recordCopies, ackCopies, contents, causeLinks}
-use Rattle.machine.specs.Writes.{withMade, withViews, withQueues, withMessages}
-use Rattle.machine.specs.EverySlot.{Sized, ViewSlot, QueueSlot, MessageSlot, RepairSlot, EntrySlot, CopySlot, ContentsSlot, LinksSlot, EverySlot}
-use Rattle.machine.specs.declared.Machine.{Machine}
-use Rattle.machine.specs.declared.View.{View}
-use Rattle.machine.specs.declared.Queue.{Queue}
-use Rattle.machine.specs.declared.Message.{Message}
+use Rattle.protocol.specs.Words.{times}
+use Rattle.protocol.specs.Slots.{number, noView, standing}
+use Rattle.protocol.specs.Slots.{view, queue, message, repair, entry, recordCopies, ackCopies, contents, causeLinks}
+use Rattle.protocol.specs.Writes.{withMade, withViews, withQueues, withMessages}
+use Rattle.unbroken.specs.EverySlot.{Sized, ViewSlot, QueueSlot, MessageSlot, RepairSlot, EntrySlot, CopySlot, ContentsSlot, LinksSlot, EverySlot}
+use Rattle.protocol.specs.declared.State.{State}
+use Rattle.protocol.specs.declared.View.{View}
+use Rattle.protocol.specs.declared.Queue.{Queue}
+use Rattle.protocol.specs.declared.Message.{Message}
 
 -- all that is asked of a view v with the record w, beside its queue and message
-pub record Job (m : Machine) (made sender v : ℕ) (w : View) : Type 0 where
+pub record Job (m : State) (made sender v : ℕ) (w : View) : Type 0 where
   pub viewSlot : ViewSlot (m .stores) (m .actors) made sender v w
   pub repairSlot : RepairSlot (m .stores) (w .phase) (repair m v)
   pub entrySlot : EntrySlot (m .stores) (w .phase) (entry m v)
@@ -28,10 +28,10 @@ pub record Job (m : Machine) (made sender v : ℕ) (w : View) : Type 0 where
   pub contentsSlot : (p : ℕ) → p < 8 → ContentsSlot (m .stores) p w (contents m p v)
   pub linksSlot : (p k : ℕ) → p < 8 → k < 16 → v ≡ number k 0 → LinksSlot (contents m p v .held) (w .links) (causeLinks m p k)
 
-abbrev pub jobsOf : Machine → ℕ → List View → List Queue → List Message → Machine
+abbrev pub jobsOf : State → ℕ → List View → List Queue → List Message → State
 jobsOf m made views queues messages = withMade (withMessages (withQueues (withViews m views) queues) messages) made
 
-module _ (m : Machine) (s : EverySlot m) where
+module _ (m : State) (s : EverySlot m) where
   -- an unbroken machine's views have it all
   pub job-at : (v : ℕ) → v < 32 → Job m (m .made) (view m (v - 1) .actor) v (view m v)
   job-at v h =
@@ -46,7 +46,7 @@ module _ (m : Machine) (s : EverySlot m) where
       }
 
   module _ (made : ℕ) (views : List View) (queues : List Queue) (messages : List Message) where
-    abbrev m′ : Machine
+    abbrev m′ : State
     m′ = jobsOf m made views queues messages
 
     pub jobs-kept : length views ≡ 32 → length queues ≡ 8 → length messages ≡ 16 → made ≤ 16 → m .made ≤ made
@@ -63,7 +63,6 @@ module _ (m : Machine) (s : EverySlot m) where
           setup = s .setup;
           homeBlank = s .homeBlank;
           listBlank = s .listBlank;
-          upBlank = s .upBlank;
           viewAt = λ v h. jobs v h .viewSlot;
           onceAt = once;
           queueAt = queued;
@@ -76,7 +75,13 @@ module _ (m : Machine) (s : EverySlot m) where
           uackAt = s .uackAt;
           contentsAt = λ p v hp h. jobs v h .contentsSlot p hp;
           linksAt = λ p k hp hk. jobs (number k 0) (omega arith) .linksSlot p k hp hk refl;
-          viewlinkAt = λ p v hp h. let o = s .viewlinkAt p v hp h in record { linkIn = o .linkIn; atStore = o .atStore; atView = λ b. let i = o .atView b in omega arith };
+          storeAt = λ p hp.
+              let o = s .storeAt p hp in
+              record {
+                upBlank = o .upBlank;
+                long = o .long;
+                linkAt = λ v h. let i = o .linkAt v h in record { linkIn = i .linkIn; atStore = i .atStore; atView = λ b. let j = i .atView b in omega arith };
+              };
         }
 
   -- one view is written, and keeps its actor

@@ -6,14 +6,14 @@ use mathlib.Core.List.{List}
 use native.Mathlib.Omega.{arith}
 use native.Mathlib.Decide.{decLt, ℕ-discrete}
 use lib.ListN.{getD, set}
-use Rattle.machine.specs.Words.{times}
-use Rattle.machine.specs.Slots.{noView, noQueue, view, queue, standing, home}
-use Rattle.machine.specs.EverySlot.{SetupKind, none, some, ViewSlot, QueueSlot, EverySlot}
-use Rattle.machine.specs.declared.Machine.{Machine}
-use Rattle.machine.specs.declared.View.{View}
-use Rattle.machine.specs.declared.Queue.{Queue}
-use Rattle.machine.proofs.Laws.Room.{actors8, made-view, unmade-absent}
-use Rattle.rules.specs.Send.{joined}
+use Rattle.protocol.specs.Words.{times}
+use Rattle.protocol.specs.Slots.{noView, noQueue, view, queue, standing, home}
+use Rattle.unbroken.specs.EverySlot.{SetupKind, none, some, ViewSlot, QueueSlot, EverySlot}
+use Rattle.protocol.specs.declared.State.{State}
+use Rattle.protocol.specs.declared.View.{View}
+use Rattle.protocol.specs.declared.Queue.{Queue}
+use Rattle.unbroken.proofs.Laws.Room.{actors8, made-view, unmade-absent}
+use Rattle.protocol.specs.Send.{joined}
 use Rattle.keeps.proofs.Index.{at-others}
 use Rattle.keeps.proofs.Jobs.{Job, job-at}
 use Rattle.keeps.proofs.Queues.{joined-long, joined-last, joined-at, joined-times, joined-once}
@@ -23,11 +23,11 @@ home-of : (stores actors a : ℕ) (homes lists : List ℕ) → a < actors → Se
 home-of stores actors a homes lists h (none x y) = absurd (omega arith)
 home-of stores actors a homes lists h (some l) = l .actorAt a h .homeIn
 
-pub home-in : (m : Machine) → EverySlot m → (a : ℕ) → a < m .actors → home m a < m .stores
+pub home-in : (m : State) → EverySlot m → (a : ℕ) → a < m .actors → home m a < m .stores
 home-in m s a h = home-of (m .stores) (m .actors) a (m .homes) (m .lists) h (s .setup)
 
 -- a view that was in phase 0 has no copies, contents, repair or entry
-module _ (m : Machine) (s : EverySlot m) (v : ℕ) (h : v < 32) (old : view m v .phase ≡ 0) where
+module _ (m : State) (s : EverySlot m) (v : ℕ) (h : v < 32) (old : view m v .phase ≡ 0) where
   pub unready-job : (made sender : ℕ) (w : View) → ViewSlot (m .stores) (m .actors) made sender v w → Job m made sender v w
   unready-job made sender w x =
       let o = job-at m s v h in
@@ -69,7 +69,7 @@ module _ (m : Machine) (s : EverySlot m) (v : ℕ) (h : v < 32) (old : view m v 
       }
 
 -- the views that stood are as they were, and the new one is in phase 1
-module _ (m : Machine) (s : EverySlot m) (a : ℕ) (ha : a < m .actors) (v : ℕ) (h : v < 32) (old : view m v .phase ≡ 0) (room : queue m a .len < 16)
+module _ (m : State) (s : EverySlot m) (a : ℕ) (ha : a < m .actors) (v : ℕ) (h : v < 32) (old : view m v .phase ≡ 0) (room : queue m a .len < 16)
     (views : List View) (actor : getD views v noView .actor ≡ a) (first : getD views v noView .phase ≡ 1)
     (same : (u : ℕ) → 1 ≤ view m u .phase → getD views u noView ≡ view m u)
     (only : (u : ℕ) → u ≢ v → 1 ≤ getD views u noView .phase → getD views u noView ≡ view m u) where

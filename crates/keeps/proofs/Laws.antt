@@ -9,37 +9,38 @@ use lib.ListN.{getD, set, length-set}
 use lib.Seq.{getD-set-same, getD-set-other}
 use lib.Dec.{eqb}
 use borrow.Author.Tests.{eq-eqb, ne-eqb}
-use Rattle.machine.specs.Words.{pick, bit, allFrom, table}
-use Rattle.machine.specs.Slots.{number, place, noView, noContents, home, isUp, view, contents, viewlink}
-use Rattle.machine.specs.Setup.{answered, legalActor, legalActors, legal, freshWith}
-use Rattle.machine.specs.Broken.{brokenOf}
-use Rattle.machine.specs.declared.Machine.{Machine}
-use Rattle.machine.specs.declared.View.{View}
-use Rattle.machine.specs.declared.Contents.{Contents}
-use Rattle.machine.specs.declared.Answered.{Answered}
-use Rattle.machine.proofs.Laws.{slots, only, fresh-unbroken}
-use Rattle.machine.proofs.Laws.Tests.{not-both}
-use Rattle.machine.proofs.Laws.Every.{table-at}
-use Rattle.machine.proofs.Laws.Says.{zero-splits}
-use Rattle.rules.specs.Send.{homeLink, sentView, awaitedView, sent}
-use Rattle.rules.specs.Receive.{receivedView, receivedOf}
-use Rattle.rules.specs.PreCheck.{preChecked}
-use Rattle.rules.specs.SendRecord.{recordSent}
-use Rattle.rules.specs.Timeout.{timedOut}
-use Rattle.rules.specs.TakeRecord.{writtenContents, writtenViewlink, recordTaken}
-use Rattle.rules.specs.TakeAck.{ackTaken}
-use Rattle.rules.specs.PostCheck.{postChecked}
-use Rattle.rules.specs.TakeRepair.{repairTaken}
-use Rattle.rules.specs.SendUpdate.{updateSent}
-use Rattle.rules.specs.TakeUpdate.{updateTaken}
-use Rattle.rules.specs.TakeUack.{uackTaken}
-use Rattle.rules.specs.Expire.{expired}
-use Rattle.rules.specs.Lose.{lost}
-use Rattle.rules.specs.Crash.{crashNo, crashed}
-use Rattle.rules.specs.Restart.{restartNo, restarted}
-use Rattle.rules.specs.Step.{numberOf, afterOf, ruleOf, stepOf}
-use Rattle.rules.specs.declared.Step.{Step}
-use Rattle.rules.specs.declared.Step.the-variants.{Send, Receive, PreCheck, SendRecord, Timeout, TakeRecord, TakeAck, PostCheck, TakeRepair, SendUpdate, TakeUpdate, TakeUack, Expire, Lose, Crash, Restart}
+use Rattle.protocol.specs.Words.{pick, bit, allFrom, table}
+use Rattle.protocol.specs.Slots.{number, place, noView, noContents, home, isUp, view, contents, viewlink}
+use Rattle.protocol.specs.Setup.{answered, legalActor, legalActors, legal, freshWith}
+use Rattle.protocol.specs.Broken.{brokenOf}
+use Rattle.protocol.specs.declared.State.{State}
+use Rattle.protocol.specs.declared.View.{View}
+use Rattle.protocol.specs.declared.Contents.{Contents}
+use Rattle.protocol.specs.Outcome.{Outcome}
+use Rattle.unbroken.proofs.Laws.{slots, only, fresh-unbroken}
+use Rattle.unbroken.proofs.Shelves.{link-same}
+use Rattle.unbroken.proofs.Laws.Tests.{not-both}
+use Rattle.unbroken.proofs.Laws.Every.{table-at}
+use Rattle.unbroken.proofs.Laws.Says.{zero-splits}
+use Rattle.protocol.specs.Send.{homeLink, sentView, awaitedView, sent}
+use Rattle.protocol.specs.Receive.{receivedView, receivedOf}
+use Rattle.protocol.specs.PreCheck.{preChecked}
+use Rattle.protocol.specs.SendRecord.{recordSent}
+use Rattle.protocol.specs.Timeout.{timedOut}
+use Rattle.protocol.specs.TakeRecord.{writtenContents, writtenViewlink, recordTaken}
+use Rattle.protocol.specs.TakeAck.{ackTaken}
+use Rattle.protocol.specs.PostCheck.{postChecked}
+use Rattle.protocol.specs.TakeRepair.{repairTaken}
+use Rattle.protocol.specs.SendUpdate.{updateSent}
+use Rattle.protocol.specs.TakeUpdate.{updateTaken}
+use Rattle.protocol.specs.TakeUack.{uackTaken}
+use Rattle.protocol.specs.Expire.{expired}
+use Rattle.protocol.specs.Lose.{lost}
+use Rattle.protocol.specs.Crash.{crashNo, crashed}
+use Rattle.protocol.specs.Restart.{restartNo, restarted}
+use Rattle.protocol.specs.Step.{numberOf, afterOf, ruleOf, stepOf}
+use Rattle.protocol.specs.declared.Step.{Step}
+use Rattle.protocol.specs.declared.Step.the-variants.{Send, Receive, PreCheck, SendRecord, Timeout, TakeRecord, TakeAck, PostCheck, TakeRepair, SendUpdate, TakeUpdate, TakeUack, Expire, Lose, Crash, Restart}
 use Rattle.keeps.specs.Laws.{TakenExactly, TakenGives, RefusedGives, BrokenGives, TakenBy, AnswerZero, JointSame, MadeCounts, SendsNewKey, SendWritesLinks}
 use Rattle.keeps.specs.Laws.{ReceiveWritesLink, StoreWritesLinks, OneResult, marked, Program, RefuserOut, ConstantOut, PretenderOut, ResultsDiffer}
 use Rattle.keeps.proofs.Index.{place-same}
@@ -56,11 +57,11 @@ pub joint-same : JointSame
 unfolding stepOf
 joint-same m s e = ap (λ b. pick b (answered 1 m) (ruleOf m s)) e
 
-rule-taken : (m : Machine) (s : Step) → numberOf m s ≡ 0 → ruleOf m s ≡ answered 0 (afterOf m s)
+rule-taken : (m : State) (s : Step) → numberOf m s ≡ 0 → ruleOf m s ≡ answered 0 (afterOf m s)
 unfolding ruleOf
 rule-taken m s z = ap (λ b. pick b (answered 0 (afterOf m s)) (answered (numberOf m s) m)) (eq-eqb (numberOf m s) 0 z)
 
-rule-refused : (m : Machine) (s : Step) → numberOf m s ≢ 0 → ruleOf m s ≡ answered (numberOf m s) m
+rule-refused : (m : State) (s : Step) → numberOf m s ≢ 0 → ruleOf m s ≡ answered (numberOf m s) m
 unfolding ruleOf
 rule-refused m s n = ap (λ b. pick b (answered 0 (afterOf m s)) (answered (numberOf m s) m)) (ne-eqb (numberOf m s) 0 n)
 
@@ -80,11 +81,11 @@ answer-zero m s =
     (λ e z y. let c = taken-when m s z in record { unbroken = e; condition = c; gives = taken-gives m s e c }) (λ e n z. absurd (n z))
 
 -- the number of interactions
-lost-made : (m : Machine) (what p k r : ℕ) → lost m what p k r .made ≡ m .made
+lost-made : (m : State) (what p k r : ℕ) → lost m what p k r .made ≡ m .made
 unfolding lost
 lost-made m what p k r =
-    pick-case (λ (x : Machine). x .made ≡ m .made) (eqb what 0) _ _ (λ e. refl)
-    (λ e. pick-case (λ (x : Machine). x .made ≡ m .made) (eqb what 1) _ _ (λ f. refl) (λ f. pick-case (λ (x : Machine). x .made ≡ m .made) (eqb what 2) _ _ (λ g. refl) (λ g. refl)))
+    pick-case (λ (x : State). x .made ≡ m .made) (eqb what 0) _ _ (λ e. refl)
+    (λ e. pick-case (λ (x : State). x .made ≡ m .made) (eqb what 1) _ _ (λ f. refl) (λ f. pick-case (λ (x : State). x .made ≡ m .made) (eqb what 2) _ _ (λ g. refl) (λ g. refl)))
 
 pub made-counts : MadeCounts
 unfolding sent receivedOf preChecked recordSent timedOut recordTaken ackTaken postChecked repairTaken updateSent updateTaken uackTaken expired crashed restarted
@@ -164,7 +165,7 @@ store-writes-links m p k r e c =
     let l = writtenViewlink (viewlink m p v) (view m v) in
     record {
       held = here;
-      viewlink = subst (λ (n : ℕ). 1 ≤ n) (sym (place-same (m .viewlinks) p v l 0 (s .sized .viewlinks) hp hv))
+      viewlink = subst (λ (n : ℕ). 1 ≤ n) (sym (link-same (m .shelves) p v l (s .sized .shelves) (s .storeAt p hp .long) hp hv))
           (pick-case (λ (n : ℕ). 1 ≤ n) (eqb (viewlink m p v) 0) (view m v .viewlink + 1) (viewlink m p v) (λ f. omega arith) (λ f. zero-splits (viewlink m p v) .fails f));
       links = λ j h z.
           kept .linksAt p k hp (key-16 m s k hk) .sameLinks j h (ap (λ (i : ℕ). contents (recordTaken m p k r) p (number k i) .held) (sym z) ∙ here)
@@ -212,12 +213,12 @@ constant-out f n same e g =
 
 pub pretender-out : (f : Program) → PretenderOut f
 pretender-out f idle e =
-    let q : marked ≡ crashed marked 0 = ap (λ x. x .machine) (sym (idle marked (Crash 0)) ∙ e ∙ crash-step) in
-    absurd (true≢false (sym up-before ∙ ap (λ (m : Machine). isUp m 0) q ∙ up-after))
+    let q : marked ≡ crashed marked 0 = ap (λ x. x .state) (sym (idle marked (Crash 0)) ∙ e ∙ crash-step) in
+    absurd (true≢false (sym up-before ∙ ap (λ (m : State). isUp m 0) q ∙ up-after))
 
 pub results-differ : ResultsDiffer
 results-differ =
     (λ e. differ (sym crash-step ∙ e ∙ restart-step), λ e. differ (sym crash-rule ∙ e ∙ restart-rule))
   where
     differ : answered 0 (crashed marked 0) ≢ answered 6 marked
-    differ e = let n : _≡_ {A = ℕ} 0 6 = ap (λ (x : Answered). x .answer) e in absurd (omega arith)
+    differ e = let n : _≡_ {A = ℕ} 0 6 = ap (λ (x : Outcome). x .answer) e in absurd (omega arith)

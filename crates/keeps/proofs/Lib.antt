@@ -1,3 +1,4 @@
+pub mod Ruled
 pub mod Cases
 pub mod Conditions
 pub mod Index
@@ -16,3 +17,4 @@ pub mod Changes
 pub mod Keeps
 pub mod Onward
 pub mod Laws
+pub mod Applies

@@ -8,34 +8,36 @@ use native.Mathlib.Omega.{arith}
 use lib.ListN.{length, getD, set, length-set}
 use lib.Seq.{getD-set-other}
 use lib.Dec.{eqb}
-use Rattle.machine.specs.Slots.{number, place, linksPlace, noView, noEntry, noRepair, noContents, noLinks, statusNumber, view, repair, entry, contents, causeLinks, viewlink}
-use Rattle.machine.specs.Writes.{withView, withEntry, withUpAt, withViewlink}
-use Rattle.machine.specs.EverySlot.{EverySlot}
-use Rattle.machine.specs.declared.Machine.{Machine}
-use Rattle.machine.specs.declared.View.{View}
-use Rattle.machine.specs.declared.Entry.{Entry}
-use Rattle.machine.specs.declared.Repair.{Repair}
-use Rattle.machine.specs.declared.Contents.{Contents}
-use Rattle.machine.specs.declared.Links.{Links}
-use Rattle.machine.specs.declared.Status.{Status}
-use Rattle.machine.proofs.Laws.Tests.{not-both}
-use Rattle.machine.specs.Closed.{restsOf, closedOf}
-use Rattle.machine.proofs.Laws.{slots}
-use Rattle.machine.proofs.Laws.Room.{made-view}
-use Rattle.machine.proofs.Laws.Says.{Says, eq-says, eq-splits, is-splits, zero-splits, and-says, not-says, put-says}
-use Rattle.rules.specs.Rule.{head, headView, phased}
-use Rattle.rules.specs.Send.{sentView, awaitedView, sent}
-use Rattle.rules.specs.Receive.{receivedView, receivedOf}
-use Rattle.rules.specs.TakeRecord.{writtenContents, writtenLinks}
-use Rattle.rules.specs.PostCheck.{askedRepair, postChecked}
-use Rattle.rules.specs.TakeRepair.{entered, repairedEntry, redirectedEntry, repairTaken}
-use Rattle.rules.specs.SendUpdate.{inStatus}
+use Rattle.protocol.specs.Slots.{number, place, linksPlace, noView, noEntry, noRepair, noContents, noLinks, statusNumber, view, repair, entry, contents, causeLinks, viewlink}
+use Rattle.protocol.specs.Writes.{withView, withEntry, withUpAt, withViewlink}
+use Rattle.unbroken.specs.EverySlot.{EverySlot}
+use Rattle.protocol.specs.declared.State.{State}
+use Rattle.protocol.specs.declared.View.{View}
+use Rattle.protocol.specs.declared.Entry.{Entry}
+use Rattle.protocol.specs.declared.Repair.{Repair}
+use Rattle.protocol.specs.declared.Contents.{Contents}
+use Rattle.protocol.specs.declared.Links.{Links}
+use Rattle.protocol.specs.declared.Status.{Status}
+use Rattle.unbroken.proofs.Laws.Tests.{not-both}
+use Rattle.protocol.specs.Closed.{restsOf, closedOf}
+use Rattle.unbroken.proofs.Laws.{slots}
+use Rattle.unbroken.proofs.Laws.Room.{made-view}
+use Rattle.unbroken.proofs.Laws.Says.{Says, eq-says, eq-splits, is-splits, zero-splits, and-says, not-says, put-says}
+use Rattle.protocol.specs.Views.{phased}
+use Rattle.protocol.specs.Rule.{head, headView}
+use Rattle.protocol.specs.Send.{sentView, awaitedView, sent}
+use Rattle.protocol.specs.Receive.{receivedView, receivedOf}
+use Rattle.protocol.specs.TakeRecord.{writtenContents, writtenLinks}
+use Rattle.protocol.specs.PostCheck.{askedRepair, postChecked}
+use Rattle.protocol.specs.TakeRepair.{entered, repairedEntry, redirectedEntry, repairTaken}
+use Rattle.protocol.specs.SendUpdate.{inStatus}
 use Rattle.keeps.specs.Taken.{HeadIn, SendTaken, ReceiveTaken, TakeRepairTaken}
 use Rattle.keeps.specs.Change.{HeadMove, isChecked, isSent, isMoved, isAcked, withFlight, withHeld, LinkMove, isWritten, isUpdated, StatusMove, isWaiting, isExpired, isDone}
 use Rattle.keeps.specs.Change.{Change, onUp, onSend, onReceive, onHead, onSettle, onFlight, onHeld, onViewlink, onStatus, onRepair}
 use Rattle.keeps.specs.Onward.{ViewOn, Onward, Resting, Closed, ClosedSays, StepOnward, ClosedStays}
 use Rattle.keeps.proofs.Index.{at-index, at-place, at-links-place}
 use Rattle.keeps.proofs.Heads.{head-32}
+use Rattle.unbroken.proofs.Shelves.{turned-link, at-link}
 use Rattle.keeps.proofs.Cases.{pick-case}
 use Rattle.keeps.proofs.Stores.{store-8, key-16, number-32}
 use Rattle.keeps.proofs.Changes.{change-kept, step-related, step-has}
@@ -74,7 +76,7 @@ view-after w x y a b =
       settled = λ e. let q = a .settled e in b .settled (ap (λ (z : View). z .phase) q ∙ e) ∙ q;
     }
 
-still : (m : Machine) → Onward m m
+still : (m : State) → Onward m m
 still m =
     record {
       stores = refl;
@@ -89,7 +91,7 @@ still m =
       entered = λ v hv h. h;
     }
 
-after : (m n o : Machine) → Onward m n → Onward n o → Onward m o
+after : (m n o : State) → Onward m n → Onward n o → Onward m o
 after m n o a b =
     let first = a .made in
     let second = b .made in
@@ -109,7 +111,7 @@ after m n o a b =
     }
 
 -- the head of a queue goes on
-head-on : (m : Machine) (a : ℕ) (w : View) → HeadMove m a w → ViewOn (headView m a) w
+head-on : (m : State) (a : ℕ) (w : View) → HeadMove m a w → ViewOn (headView m a) w
 head-on m a w (isChecked h) =
     let e = h .headPhase in
     record {
@@ -182,7 +184,7 @@ settle-on w e =
       settled = λ f. absurd (omega arith);
     }
 
-receive-on : (m : Machine) (k : ℕ) → view m (number k 1) .phase ≡ 0 → ViewOn (view m (number k 1)) (receivedView m k)
+receive-on : (m : State) (k : ℕ) → view m (number k 1) .phase ≡ 0 → ViewOn (view m (number k 1)) (receivedView m k)
 receive-on m k e =
     record {
       actor = refl;
@@ -198,9 +200,9 @@ receive-on m k e =
     }
 
 -- of the arrays that speak of the past only the views are written, and each goes on
-views-onward : (m n : Machine) → n .stores ≡ m .stores → n .actors ≡ m .actors → n .homes ≡ m .homes → n .lists ≡ m .lists → m .made ≤ n .made
+views-onward : (m n : State) → n .stores ≡ m .stores → n .actors ≡ m .actors → n .homes ≡ m .homes → n .lists ≡ m .lists → m .made ≤ n .made
     → ((v : ℕ) → v < m .made * 2 → ViewOn (view m v) (view n v))
-    → n .contents ≡ m .contents → n .links ≡ m .links → n .viewlinks ≡ m .viewlinks → n .entries ≡ m .entries → Onward m n
+    → n .contents ≡ m .contents → n .links ≡ m .links → ((p v : ℕ) → viewlink n p v ≡ viewlink m p v) → n .entries ≡ m .entries → Onward m n
 views-onward m n s₁ s₂ s₃ s₄ more on c l k e =
     record {
       stores = s₁;
@@ -211,11 +213,11 @@ views-onward m n s₁ s₂ s₃ s₄ more on c l k e =
       views = on;
       held = λ p v hp hv b. ap (λ (x : List Contents). getD x (place p v) noContents) c;
       links = λ p j hp hj b. ap (λ (x : List Links). getD x (linksPlace p j) noLinks .to) l;
-      linked = λ p v hp hv b. subst (λ (x : List ℕ). 1 ≤ getD x (place p v) 0) (sym k) b;
+      linked = λ p v hp hv b. subst (λ (x : ℕ). 1 ≤ x) (sym (k p v)) b;
       entered = λ v hv b. subst (λ (x : List Entry). 1 ≤ statusNumber (getD x v noEntry .status)) (sym e) b;
     }
 
-module _ (m : Machine) (s : EverySlot m) where
+module _ (m : State) (s : EverySlot m) where
   one-view : (u : ℕ) → u < 32 → (w : View) → ViewOn (view m u) w → (v : ℕ) → v < m .made * 2 → ViewOn (view m v) (getD (set (m .views) u w) v noView)
   one-view u hu w o v hv =
       let few = s .made16 in
@@ -230,15 +232,15 @@ module _ (m : Machine) (s : EverySlot m) where
       (λ v h. subst (ViewOn (view m v))
       (sym (getD-set-other (set (m .views) (number k 0) w) (number k 1) v (awaitedView to) noView (omega arith) ∙ getD-set-other (m .views) (number k 0) v w noView (omega arith)))
       (view-still (view m v)))
-      refl refl refl refl
+      refl refl (λ p v. refl) refl
 
   receive-onward : (k : ℕ) → ReceiveTaken m k → Onward m (receivedOf m k)
   unfolding receivedOf
   receive-onward k c =
-      views-onward m (receivedOf m k) refl refl refl refl (omega arith) (one-view (number k 1) (number-32 m s k 1 (c .keyIn) (omega arith)) (receivedView m k) (receive-on m k (c .unreceived))) refl refl refl refl
+      views-onward m (receivedOf m k) refl refl refl refl (omega arith) (one-view (number k 1) (number-32 m s k 1 (c .keyIn) (omega arith)) (receivedView m k) (receive-on m k (c .unreceived))) refl refl (λ p v. refl) refl
 
   head-onward : (a : ℕ) (w : View) → HeadMove m a w → head m a < 32 → Onward m (withView m (head m a) w)
-  head-onward a w h b = views-onward m (withView m (head m a) w) refl refl refl refl (omega arith) (one-view (head m a) b w (head-on m a w h)) refl refl refl refl
+  head-onward a w h b = views-onward m (withView m (head m a) w) refl refl refl refl (omega arith) (one-view (head m a) b w (head-on m a w h)) refl refl (λ p v. refl) refl
 
   head-place : (a : ℕ) (w : View) → HeadMove m a w → head m a < 32
   head-place a w (isChecked h) = head-32 m s a (h .actorIn) (h .queued)
@@ -250,7 +252,7 @@ module _ (m : Machine) (s : EverySlot m) where
   unfolding postChecked
   settle-onward a h =
       views-onward m (postChecked m a) refl refl refl refl (omega arith)
-      (one-view (head m a) (head-32 m s a (h .actorIn) (h .queued)) (phased 5 (headView m a)) (settle-on (headView m a) (h .headPhase))) refl refl refl refl
+      (one-view (head m a) (head-32 m s a (h .actorIn) (h .queued)) (phased 5 (headView m a)) (settle-on (headView m a) (h .headPhase))) refl refl (λ p v. refl) refl
 
   -- a store's contents are written only if none were there, and its viewlinks only to a store
   links-stay : (r : ℕ) (c : Contents) (w : View) (l : Links) → (r ≡ 0 → c .held ≡ true) → writtenLinks r c w l ≡ l
@@ -297,7 +299,7 @@ module _ (m : Machine) (s : EverySlot m) where
         views = λ u h. view-still (view m u);
         held = λ q u hq hu e. refl;
         links = λ q j hq hj e. refl;
-        linked = at-place (m .viewlinks) p v link 0 (s .sized .viewlinks) hp (in-views v link l) (λ q u n. 1 ≤ viewlink m q u → 1 ≤ n) (λ h. some v link l h) (λ q u hq hu h. h);
+        linked = at-link (m .shelves) p v link (s .sized .shelves) (s .storeAt p hp .long) hp (in-views v link l) (λ q u n. 1 ≤ viewlink m q u → 1 ≤ n) (λ h. some v link l h) (λ q u hq hu h. h);
         entered = λ u hu h. h;
       }
     where
@@ -311,7 +313,7 @@ module _ (m : Machine) (s : EverySlot m) where
       some u n (isUpdated r hr c) b = omega arith
 
 -- an entry stays an entry
-entry-onward : (m : Machine) → length (m .entries) ≡ 32 → (u : ℕ) → u < 32 → (e : Entry) → (1 ≤ statusNumber (entry m u .status) → 1 ≤ statusNumber (e .status)) → Onward m (withEntry m u e)
+entry-onward : (m : State) → length (m .entries) ≡ 32 → (u : ℕ) → u < 32 → (e : Entry) → (1 ≤ statusNumber (entry m u .status) → 1 ≤ statusNumber (e .status)) → Onward m (withEntry m u e)
 entry-onward m long u hu e f =
     record {
       stores = refl;
@@ -327,7 +329,7 @@ entry-onward m long u hu e f =
     }
 
 -- .. also where the opposite view's repair redirects it
-repair-onward : (m : Machine) → EverySlot m → (k r : ℕ) → TakeRepairTaken m k r → Onward m (repairTaken m k r)
+repair-onward : (m : State) → EverySlot m → (k r : ℕ) → TakeRepairTaken m k r → Onward m (repairTaken m k r)
 unfolding repairTaken
 repair-onward m s k r c =
     let hk = c .view .keyIn in
@@ -358,20 +360,21 @@ repair-onward m s k r c =
       entered = d .entered;
     }
 
-flight-onward : (m : Machine) (records acks updates uacks : List ℕ) → Onward m (withFlight m records acks updates uacks)
+flight-onward : (m : State) (records acks updates uacks : List ℕ) → Onward m (withFlight m records acks updates uacks)
 flight-onward m records acks updates uacks =
-    views-onward m (withFlight m records acks updates uacks) refl refl refl refl (omega arith) (λ v h. view-still (view m v)) refl refl refl refl
+    views-onward m (withFlight m records acks updates uacks) refl refl refl refl (omega arith) (λ v h. view-still (view m v)) refl refl (λ p v. refl) refl
 
-up-onward : (m : Machine) (p : ℕ) (b : Bool) → Onward m (withUpAt m p b)
-up-onward m p b = views-onward m (withUpAt m p b) refl refl refl refl (omega arith) (λ v h. view-still (view m v)) refl refl refl refl
+up-onward : (m : State) (p : ℕ) (b : Bool) → Onward m (withUpAt m p b)
+up-onward m p b =
+    views-onward m (withUpAt m p b) refl refl refl refl (omega arith) (λ v h. view-still (view m v)) refl refl (turned-link (m .shelves) p b) refl
 
 -- a status that was to-send or waiting is one of an entry
-status-from : (m : Machine) (v : ℕ) (t : Status) → StatusMove m v t → (1 ≤ statusNumber t) × (1 ≤ statusNumber (entry m v .status)) × (statusNumber (entry m v .status) ≤ 2)
+status-from : (m : State) (v : ℕ) (t : Status) → StatusMove m v t → (1 ≤ statusNumber t) × (1 ≤ statusNumber (entry m v .status)) × (statusNumber (entry m v .status) ≤ 2)
 status-from m v t (isWaiting e) = let n = ap statusNumber e in (omega arith, omega arith, omega arith)
 status-from m v t (isExpired e) = let n = ap statusNumber e in (omega arith, omega arith, omega arith)
 status-from m v t (isDone p hp e d c) = let n = ap statusNumber e in (omega arith, omega arith, omega arith)
 
-pub change-onward : (m n : Machine) → EverySlot m → Change m n → Onward m n
+pub change-onward : (m n : State) → EverySlot m → Change m n → Onward m n
 change-onward m n s (onUp p b h) = up-onward m p b
 change-onward m n s (onSend from to own word causes c) = send-onward m s from to own word causes c
 change-onward m n s (onReceive k c) = receive-onward m s k c
@@ -388,7 +391,7 @@ pub step-onward : StepOnward
 step-onward = step-related Onward still after change-onward
 
 -- the views of a closed interaction rest through every change
-module _ (m : Machine) (s : EverySlot m) (k : ℕ) (rests : (r : ℕ) → r < 2 → Resting m (number k r)) where
+module _ (m : State) (s : EverySlot m) (k : ℕ) (rests : (r : ℕ) → r < 2 → Resting m (number k r)) where
   settle-rests : (a : ℕ) → HeadIn 4 m a → (r : ℕ) → r < 2 → repair (postChecked m a) (number k r) .flying ≡ false
   unfolding postChecked
   settle-rests a h r hr =
@@ -427,7 +430,7 @@ module _ (m : Machine) (s : EverySlot m) (k : ℕ) (rests : (r : ℕ) → r < 2 
         let e₂ = redirectedEntry (repair m v) (entry m o) in
         getD-set-other (set (m .entries) v e₁) o (number k r) e₂ noEntry off ∙ getD-set-other (m .entries) v (number k r) e₁ noEntry (apart r hr)
 
-  change-repair : (n : Machine) → Change m n → (r : ℕ) → r < 2 → repair n (number k r) .flying ≡ false
+  change-repair : (n : State) → Change m n → (r : ℕ) → r < 2 → repair n (number k r) .flying ≡ false
   unfolding sent receivedOf
   change-repair n (onUp p b h) r hr = rests r hr .repair
   change-repair n (onSend from to own word causes c) r hr = rests r hr .repair
@@ -440,7 +443,7 @@ module _ (m : Machine) (s : EverySlot m) (k : ℕ) (rests : (r : ℕ) → r < 2 
   change-repair n (onStatus j i t o c) r hr = rests r hr .repair
   change-repair n (onRepair j i c) r hr = repair-rests j i c r hr
 
-  change-entry : (n : Machine) → Change m n → (r : ℕ) → r < 2 → entry n (number k r) ≡ entry m (number k r)
+  change-entry : (n : State) → Change m n → (r : ℕ) → r < 2 → entry n (number k r) ≡ entry m (number k r)
   unfolding sent receivedOf postChecked
   change-entry n (onUp p b h) r hr = refl
   change-entry n (onSend from to own word causes c) r hr = refl
@@ -453,7 +456,7 @@ module _ (m : Machine) (s : EverySlot m) (k : ℕ) (rests : (r : ℕ) → r < 2 
   change-entry n (onStatus j i t o c) r hr = status-rests j i t c r hr
   change-entry n (onRepair j i c) r hr = entry-rests j i c r hr
 
-  change-rests : k < m .made → (n : Machine) → Change m n → (r : ℕ) → r < 2 → Resting n (number k r)
+  change-rests : k < m .made → (n : State) → Change m n → (r : ℕ) → r < 2 → Resting n (number k r)
   change-rests hk n c r hr =
       let q = rests r hr in
       let same = change-entry n c r hr in
@@ -466,7 +469,7 @@ module _ (m : Machine) (s : EverySlot m) (k : ℕ) (rests : (r : ℕ) → r < 2 
         awaited = λ e. second (sym (ap (λ (x : Entry). statusNumber (x .status)) same) ∙ e);
       }
 
-pub closed-change : (k : ℕ) (m n : Machine) → EverySlot m → Change m n → Closed m k → Closed n k
+pub closed-change : (k : ℕ) (m n : State) → EverySlot m → Change m n → Closed m k → Closed n k
 closed-change k m n s c d =
     let on = change-onward m n s c in
     let hk = d .keyIn in
@@ -480,14 +483,14 @@ closed-change k m n s c d =
     rests (suc (suc r)) h = absurd (omega arith)
 
 -- the test for closed says that
-rests-say : (m : Machine) (v : ℕ) → Says (restsOf m v) (Resting m v)
+rests-say : (m : State) (v : ℕ) → Says (restsOf m v) (Resting m v)
 rests-say m v =
     let n = statusNumber (entry m v .status) in
     put-says (and-says (and-says (and-says (eq-says (view m v .phase) 5) (not-says (is-splits (repair m v .flying)))) (not-says (eq-splits n 1))) (not-says (eq-splits n 2)))
     (λ x. record { phase = x .0 .0 .0; repair = x .0 .0 .1; due = x .0 .1; awaited = x .1 })
     (λ y. (((y .phase, y .repair), y .due), y .awaited))
 
-closed-slots : (m : Machine) (k : ℕ) → EverySlot m → Says (closedOf m k) (Closed m k)
+closed-slots : (m : State) (k : ℕ) → EverySlot m → Says (closedOf m k) (Closed m k)
 unfolding closedOf
 closed-slots m k s =
     put-says (and-says (rests-say m (number k 0)) (rests-say m (number k 1)))

@@ -8,16 +8,17 @@ use native.Mathlib.Omega.{arith}
 use native.Mathlib.Decide.{decLt}
 use lib.ListN.{getD, set, length-set}
 use lib.Seq.{getD-set-same, getD-set-other}
-use Rattle.machine.specs.Words.{times}
-use Rattle.machine.specs.Slots.{noView, noQueue, view, queue, standing, repair}
-use Rattle.machine.specs.Writes.{withView, withQueue}
-use Rattle.machine.specs.EverySlot.{QueueSlot, RepairSlot, EverySlot}
-use Rattle.machine.specs.declared.Machine.{Machine}
-use Rattle.machine.specs.declared.View.{View}
-use Rattle.machine.specs.declared.Queue.{Queue}
-use Rattle.machine.proofs.Laws.Room.{actors8, made-view}
-use Rattle.rules.specs.Rule.{head, headView, phased}
-use Rattle.rules.specs.PostCheck.{askedRepair, left, postChecked}
+use Rattle.protocol.specs.Words.{times}
+use Rattle.protocol.specs.Slots.{noView, noQueue, view, queue, standing, repair}
+use Rattle.protocol.specs.Writes.{withView, withQueue}
+use Rattle.unbroken.specs.EverySlot.{QueueSlot, RepairSlot, EverySlot}
+use Rattle.protocol.specs.declared.State.{State}
+use Rattle.protocol.specs.declared.View.{View}
+use Rattle.protocol.specs.declared.Queue.{Queue}
+use Rattle.unbroken.proofs.Laws.Room.{actors8, made-view}
+use Rattle.protocol.specs.Views.{phased}
+use Rattle.protocol.specs.Rule.{head, headView}
+use Rattle.protocol.specs.PostCheck.{askedRepair, left, postChecked}
 use Rattle.keeps.specs.Taken.{HeadIn}
 use Rattle.keeps.proofs.Index.{at-others}
 use Rattle.keeps.proofs.Writes.{repair-write}
@@ -27,7 +28,7 @@ use Rattle.keeps.proofs.Cases.{pick-case}
 use Rattle.keeps.proofs.Actors.{phased-slot}
 use Rattle.keeps.proofs.Queues.{left-long, left-at, left-end, left-times}
 
-module _ (m : Machine) (s : EverySlot m) (a : ℕ) (ha : a < m .actors) (some : 1 ≤ queue m a .len) where
+module _ (m : State) (s : EverySlot m) (a : ℕ) (ha : a < m .actors) (some : 1 ≤ queue m a .len) where
   abbrev w : View
   w = phased 5 (headView m a)
 
@@ -120,7 +121,7 @@ module _ (m : Machine) (s : EverySlot m) (a : ℕ) (ha : a < m .actors) (some : 
       (one-job m s (head m a) v-32 w refl (moved-job m s (head m a) v-32 (head-to m s a ha some) w x (omega arith) refl refl refl (λ h. refl)))
       once queued (message-same m s (head m a) v-32 w refl from (omega arith))
 
-pub post-check-kept : (m : Machine) → EverySlot m → (a : ℕ) → HeadIn 4 m a → EverySlot (postChecked m a)
+pub post-check-kept : (m : State) → EverySlot m → (a : ℕ) → HeadIn 4 m a → EverySlot (postChecked m a)
 unfolding postChecked
 post-check-kept m s a c =
     let ha = c .actorIn in

@@ -8,11 +8,11 @@ use lib.ListN.{length, getD, set, take, drop, length-set, length-append, length-
 use lib.Seq.{getD-drop, getD-append-seam, getD-set-same, getD-set-other, take-append-le, take-suc-set}
 use lib.Dec.{eqb}
 use borrow.Author.Tests.{eq-eqb, ne-eqb}
-use Rattle.machine.specs.Words.{one, times}
-use Rattle.machine.specs.Slots.{standing}
-use Rattle.machine.specs.declared.Queue.{Queue}
-use Rattle.rules.specs.PostCheck.{left}
-use Rattle.rules.specs.Send.{joined}
+use Rattle.protocol.specs.Words.{one, times}
+use Rattle.protocol.specs.Slots.{standing}
+use Rattle.protocol.specs.declared.Queue.{Queue}
+use Rattle.protocol.specs.PostCheck.{left}
+use Rattle.protocol.specs.Send.{joined}
 
 module _ (q : Queue) (long : length (q .views) ≡ 16) where
   -- the head has left

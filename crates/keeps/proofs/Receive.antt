@@ -7,22 +7,22 @@ use mathlib.Core.List.{List}
 use native.Mathlib.Omega.{arith}
 use lib.ListN.{getD, set, length-set, getD-replicate}
 use lib.Seq.{getD-set-other}
-use Rattle.machine.specs.Slots.{number, noView, noMessage, view, queue, message}
-use Rattle.machine.specs.EverySlot.{ViewSlot, MessageSlot, EverySlot}
-use Rattle.machine.specs.declared.Machine.{Machine}
-use Rattle.machine.specs.declared.View.{View}
-use Rattle.machine.specs.declared.Message.{Message}
-use Rattle.machine.proofs.Laws.Room.{bounds-of}
-use Rattle.machine.proofs.Laws.Bits.{no-bit}
-use Rattle.rules.specs.Send.{joined}
-use Rattle.rules.specs.Receive.{receivedView, receivedOf}
+use Rattle.protocol.specs.Slots.{number, noView, noMessage, view, queue, message}
+use Rattle.unbroken.specs.EverySlot.{ViewSlot, MessageSlot, EverySlot}
+use Rattle.protocol.specs.declared.State.{State}
+use Rattle.protocol.specs.declared.View.{View}
+use Rattle.protocol.specs.declared.Message.{Message}
+use Rattle.unbroken.proofs.Laws.Room.{bounds-of}
+use Rattle.unbroken.proofs.Laws.Bits.{no-bit}
+use Rattle.protocol.specs.Send.{joined}
+use Rattle.protocol.specs.Receive.{receivedView, receivedOf}
 use Rattle.keeps.specs.Taken.{ReceiveTaken}
 use Rattle.keeps.proofs.Index.{at-others}
 use Rattle.keeps.proofs.Jobs.{jobs-kept, read-same, one-job, views-long}
 use Rattle.keeps.proofs.Joins.{home-in, unready-job, join-queued, join-once}
 use Rattle.keeps.proofs.Stores.{number-32, key-16}
 
-module _ (m : Machine) (s : EverySlot m) (k : ℕ) (hk : k < m .made) (old : view m (number k 1) .phase ≡ 0) where
+module _ (m : State) (s : EverySlot m) (k : ℕ) (hk : k < m .made) (old : view m (number k 1) .phase ≡ 0) where
   abbrev v : ℕ
   v = number k 1
 
@@ -49,11 +49,7 @@ module _ (m : Machine) (s : EverySlot m) (k : ℕ) (hk : k < m .made) (old : vie
         linkBlank = λ j b e. getD-replicate {A = ℕ} 16 j 0 0 b;
         storeIn = λ b. home-in m s a a-in;
         viewlinkIn = λ b. g .ownIn (g .sent hk old);
-        storeUnset = λ e. absurd (omega arith);
-        viewlinkUnset = λ e. absurd (omega arith);
-        changedUnset = λ e. absurd (omega arith);
-        causesUnset = λ e. absurd (omega arith);
-        wordUnset = λ e. absurd (omega arith);
+        unset = λ e. absurd (omega arith);
         actorIn = λ b. a-in;
         phase5 = λ b. omega arith;
         senderMade = λ b r. omega arith;
@@ -105,5 +101,5 @@ module _ (m : Machine) (s : EverySlot m) (k : ℕ) (hk : k < m .made) (old : vie
       (join-queued m s a a-in v v-32 old room views actor first same only)
       received-messages
 
-pub receive-kept : (m : Machine) → EverySlot m → (k : ℕ) → ReceiveTaken m k → EverySlot (receivedOf m k)
+pub receive-kept : (m : State) → EverySlot m → (k : ℕ) → ReceiveTaken m k → EverySlot (receivedOf m k)
 receive-kept m s k c = received-kept m s k (c .keyIn) (c .unreceived)

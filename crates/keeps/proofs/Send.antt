@@ -8,24 +8,24 @@ use native.Mathlib.Omega.{arith}
 use native.Mathlib.Decide.{ℕ-discrete}
 use lib.ListN.{length, getD, set, length-set, getD-replicate}
 use lib.Seq.{getD-set-same, getD-set-other}
-use Rattle.machine.specs.Words.{bit}
-use Rattle.machine.specs.Slots.{number, noView, noMessage, view, queue, message, home}
-use Rattle.machine.specs.EverySlot.{ViewSlot, MessageSlot, EverySlot}
-use Rattle.machine.specs.declared.Machine.{Machine}
-use Rattle.machine.specs.declared.View.{View}
-use Rattle.machine.specs.declared.Message.{Message}
-use Rattle.machine.proofs.Laws.Tests.{not-both}
-use Rattle.machine.proofs.Laws.Every.{length-table, table-at}
-use Rattle.machine.proofs.Laws.Room.{actors8, bounds-of}
-use Rattle.machine.proofs.Laws.Bits.{no-bit}
-use Rattle.rules.specs.Send.{joined, homeLink, sentView, awaitedView, sent}
+use Rattle.protocol.specs.Words.{bit}
+use Rattle.protocol.specs.Slots.{number, noView, noMessage, view, queue, message, home}
+use Rattle.unbroken.specs.EverySlot.{ViewSlot, MessageSlot, EverySlot}
+use Rattle.protocol.specs.declared.State.{State}
+use Rattle.protocol.specs.declared.View.{View}
+use Rattle.protocol.specs.declared.Message.{Message}
+use Rattle.unbroken.proofs.Laws.Tests.{not-both}
+use Rattle.unbroken.proofs.Laws.Every.{length-table, table-at}
+use Rattle.unbroken.proofs.Laws.Room.{actors8, bounds-of}
+use Rattle.unbroken.proofs.Laws.Bits.{no-bit}
+use Rattle.protocol.specs.Send.{joined, homeLink, sentView, awaitedView, sent}
 use Rattle.keeps.specs.Taken.{SendTaken}
 use Rattle.keeps.proofs.Index.{at-others}
 use Rattle.keeps.proofs.Jobs.{Job, job-at, jobs-kept}
 use Rattle.keeps.proofs.Joins.{home-in, unready-job, join-queued, join-once}
 use Rattle.keeps.proofs.Cases.{pick-case}
 
-module _ (m : Machine) (s : EverySlot m) (from to own word causes : ℕ) (c : SendTaken m from to own causes) where
+module _ (m : State) (s : EverySlot m) (from to own word causes : ℕ) (c : SendTaken m from to own causes) where
   abbrev k : ℕ
   k = m .made
 
@@ -82,11 +82,7 @@ module _ (m : Machine) (s : EverySlot m) (from to own word causes : ℕ) (c : Se
         linkBlank = λ j h b. link-at j h ∙ pick-case (λ (n : ℕ). n ≡ 0) (bit causes j) _ _ (λ e. not-both (bit causes j) e b) (λ e. refl);
         storeIn = λ h. c .ownIn;
         viewlinkIn = λ h. home-in m s to (c .toIn);
-        storeUnset = λ e. absurd (omega arith);
-        viewlinkUnset = λ e. absurd (omega arith);
-        changedUnset = λ e. refl;
-        causesUnset = λ e. absurd (omega arith);
-        wordUnset = λ e. absurd (omega arith);
+        unset = λ e. absurd (omega arith);
         actorIn = λ h. c .fromIn;
         phase5 = λ h. omega arith;
         senderMade = λ h r. omega arith;
@@ -105,11 +101,7 @@ module _ (m : Machine) (s : EverySlot m) (from to own word causes : ℕ) (c : Se
         linkBlank = λ j b e. getD-replicate {A = ℕ} 16 j 0 0 b;
         storeIn = λ h. absurd (omega arith);
         viewlinkIn = λ h. absurd (omega arith);
-        storeUnset = λ e. refl;
-        viewlinkUnset = λ e. refl;
-        changedUnset = λ e. refl;
-        causesUnset = λ e. refl;
-        wordUnset = λ e. refl;
+        unset = λ e. refl;
         actorIn = λ h. c .toIn;
         phase5 = λ h. omega arith;
         senderMade = λ h r. absurd (omega arith);
@@ -130,11 +122,7 @@ module _ (m : Machine) (s : EverySlot m) (from to own word causes : ℕ) (c : Se
         linkBlank = o .linkBlank;
         storeIn = o .storeIn;
         viewlinkIn = o .viewlinkIn;
-        storeUnset = o .storeUnset;
-        viewlinkUnset = o .viewlinkUnset;
-        changedUnset = o .changedUnset;
-        causesUnset = o .causesUnset;
-        wordUnset = o .wordUnset;
+        unset = o .unset;
         actorIn = λ b. o .actorIn (omega arith);
         phase5 = λ b. o .phase5 (omega arith);
         senderMade = λ b. o .senderMade (omega arith);

@@ -7,17 +7,17 @@ use lib.ListN.{length, getD}
 use lib.Seq.{getD-set-other}
 use lib.Dec.{eqb, ltb}
 use borrow.Author.Tests.{ltb-true}
-use Rattle.machine.specs.Words.{pick}
-use Rattle.machine.specs.Slots.{number, place, linksPlace, noContents, noLinks, view, contents, causeLinks, viewlink}
-use Rattle.machine.specs.EverySlot.{CopySlot, ContentsSlot, LinksSlot, ViewlinkSlot, EverySlot}
-use Rattle.machine.specs.declared.Machine.{Machine}
-use Rattle.machine.specs.declared.View.{View}
-use Rattle.machine.specs.declared.Contents.{Contents}
-use Rattle.machine.specs.declared.Links.{Links}
-use Rattle.machine.proofs.Laws.Tests.{not-both}
-use Rattle.machine.proofs.Laws.Room.{stores8}
-use Rattle.rules.specs.Rule.{more}
-use Rattle.rules.specs.TakeRecord.{writtenContents, writtenLinks, writtenViewlink}
+use Rattle.protocol.specs.Words.{pick}
+use Rattle.protocol.specs.Slots.{number, place, linksPlace, noContents, noLinks, view, contents, causeLinks, viewlink}
+use Rattle.unbroken.specs.EverySlot.{CopySlot, ContentsSlot, LinksSlot, ViewlinkSlot, EverySlot}
+use Rattle.protocol.specs.declared.State.{State}
+use Rattle.protocol.specs.declared.View.{View}
+use Rattle.protocol.specs.declared.Contents.{Contents}
+use Rattle.protocol.specs.declared.Links.{Links}
+use Rattle.unbroken.proofs.Laws.Tests.{not-both}
+use Rattle.unbroken.proofs.Laws.Room.{stores8}
+use Rattle.protocol.specs.Rule.{more}
+use Rattle.protocol.specs.TakeRecord.{writtenContents, writtenLinks, writtenViewlink}
 use Rattle.keeps.specs.Change.{withHeld}
 use Rattle.keeps.proofs.Cases.{pick-case}
 use Rattle.keeps.proofs.Index.{place-same}
@@ -36,7 +36,7 @@ more-copies {stores} {p} {least} {at} {n} c hp hl =
       atView = λ h. hl;
     }
 
-module _ (m : Machine) (s : EverySlot m) where
+module _ (m : State) (s : EverySlot m) where
   pub store-8 : (p : ℕ) → p < m .stores → p < 8
   store-8 p h = let t = stores8 m s in omega arith
 
@@ -101,4 +101,4 @@ module _ (m : Machine) (s : EverySlot m) where
     linked v hv made ready =
         let in-stores = s .viewAt v hv .viewlinkIn (omega arith) in
         pick-case (ViewlinkSlot (m .stores) (m .made) p v) (eqb (viewlink m p v) 0) _ _
-        (λ e. record { linkIn = omega arith; atStore = λ h. inside; atView = λ h. made }) (λ e. s .viewlinkAt p v hp hv)
+        (λ e. record { linkIn = omega arith; atStore = λ h. inside; atView = λ h. made }) (λ e. s .storeAt p hp .linkAt v hv)

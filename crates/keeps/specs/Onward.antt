@@ -3,13 +3,13 @@ use Prim.Native.Nat.{ℕ, _*_, _≤_, _<_}
 use mathlib.Core.Path.{_≡_}
 use mathlib.Core.Logic.{_≢_}
 use mathlib.Core.Bool.{true, false}
-use Rattle.machine.specs.Slots.{number, statusNumber, view, repair, entry, contents, causeLinks, viewlink}
-use Rattle.machine.specs.Broken.{brokenOf}
-use Rattle.machine.specs.Closed.{closedOf}
-use Rattle.machine.specs.declared.Machine.{Machine}
-use Rattle.machine.specs.declared.View.{View}
-use Rattle.rules.specs.Step.{stepOf}
-use Rattle.rules.specs.declared.Step.{Step}
+use Rattle.protocol.specs.Slots.{number, statusNumber, view, repair, entry, contents, causeLinks, viewlink}
+use Rattle.protocol.specs.Broken.{brokenOf}
+use Rattle.protocol.specs.Closed.{closedOf}
+use Rattle.protocol.specs.declared.State.{State}
+use Rattle.protocol.specs.declared.View.{View}
+use Rattle.protocol.specs.Step.{stepOf}
+use Rattle.protocol.specs.declared.Step.{Step}
 
 -- a view's record w becomes x
 pub record ViewOn (w x : View) : Type 0 where
@@ -27,7 +27,7 @@ pub record ViewOn (w x : View) : Type 0 where
   pub unmoved : 4 ≤ w .phase → x .changed ≡ w .changed
   pub settled : w .phase ≡ 5 → x ≡ w
 
-pub record Onward (m n : Machine) : Type 0 where
+pub record Onward (m n : State) : Type 0 where
   -- the setup
   pub stores : n .stores ≡ m .stores
   pub actors : n .actors ≡ m .actors
@@ -43,25 +43,25 @@ pub record Onward (m n : Machine) : Type 0 where
   pub entered : (v : ℕ) → v < 32 → 1 ≤ statusNumber (entry m v .status) → 1 ≤ statusNumber (entry n v .status)
 
 -- a view rests: in phase 5, no repair in flight, and no entry that is to-send (1) or waiting (2)
-pub record Resting (m : Machine) (v : ℕ) : Type 0 where
+pub record Resting (m : State) (v : ℕ) : Type 0 where
   pub phase : view m v .phase ≡ 5
   pub repair : repair m v .flying ≡ false
   pub due : statusNumber (entry m v .status) ≢ 1
   pub awaited : statusNumber (entry m v .status) ≢ 2
 
 -- an interaction is closed: both of its views rest
-pub record Closed (m : Machine) (k : ℕ) : Type 0 where
+pub record Closed (m : State) (k : ℕ) : Type 0 where
   pub keyIn : k < m .made
   pub sender : Resting m (number k 0)
   pub receiver : Resting m (number k 1)
 
 abbrev pub ClosedSays : Type 0
-ClosedSays = (m : Machine) (k : ℕ) → brokenOf m ≡ false → (closedOf m k ≡ true → Closed m k) × (Closed m k → closedOf m k ≡ true)
+ClosedSays = (m : State) (k : ℕ) → brokenOf m ≡ false → (closedOf m k ≡ true → Closed m k) × (Closed m k → closedOf m k ≡ true)
 
 -- every step, taken or refused, of every machine
 abbrev pub StepOnward : Type 0
-StepOnward = (m : Machine) (s : Step) → Onward m (stepOf m s .machine)
+StepOnward = (m : State) (s : Step) → Onward m (stepOf m s .state)
 
 -- closed stays closed
 abbrev pub ClosedStays : Type 0
-ClosedStays = (m : Machine) (s : Step) (k : ℕ) → closedOf m k ≡ true → closedOf (stepOf m s .machine) k ≡ true
+ClosedStays = (m : State) (s : Step) (k : ℕ) → closedOf m k ≡ true → closedOf (stepOf m s .state) k ≡ true

@@ -10,11 +10,11 @@ use lib.ListN.{length, set, length-set, length-append}
 use lib.Seq.{take-suc-set}
 use lib.Dec.{ltb, eqb, leb}
 use borrow.Author.Tests.{lt-ltb}
-use Rattle.machine.specs.Words.{pick}
-use Rattle.machine.specs.declared.Machine.{Machine}
+use Rattle.protocol.specs.Words.{pick}
+use Rattle.protocol.specs.declared.State.{State}
 use Rattle.listing.specs.declared.Text.{Text}
 use Rattle.listing.specs.Text.{noText, putOf, wrote}
-use Rattle.listing.specs.Listing.{decimal, large, refusedLine, countsLine, linkText, placeText, lineOf, viewLine, linesTo, listingOf}
+use Rattle.protocol.specs.Listing.{decimal, large, refusedLine, countsLine, linkText, placeText, lineOf, viewLine, linesTo, listingOf}
 use Rattle.listing.specs.Whole.{shown, ListingShown, ListingLength, RefusalShown, OneListing, OneRefusal}
 
 pick-short : (b : Bool) (xs ys : List ℕ) (k : ℕ) → length xs ≤ k → length ys ≤ k → length (pick b xs ys) ≤ k
@@ -47,11 +47,11 @@ line-short key role phase store held =
     simp length-append
     (omega (arith, decimal-short key, decimal-short role, decimal-short phase, place-short phase store held))
 
-view-short : (m : Machine) (v : ℕ) → length (viewLine m v) ≤ 30
+view-short : (m : State) (v : ℕ) → length (viewLine m v) ≤ 30
 unfolding viewLine
 view-short m v = pick-short (leb (m .made * 2) v) _ _ 30 (omega arith) (line-short _ _ _ _ _)
 
-lines-short : (m : Machine) (v : ℕ) → length (linesTo m v) ≤ 30 * v
+lines-short : (m : State) (v : ℕ) → length (linesTo m v) ≤ 30 * v
 unfolding linesTo
 lines-short m zero = omega arith
 lines-short m (suc v) = simp length-append (omega (arith, lines-short m v, view-short m v))
@@ -62,7 +62,7 @@ counts-short stores actors made steps taken =
     simp length-append
     (omega (arith, decimal-short stores, decimal-short actors, decimal-short made, decimal-short steps, decimal-short taken))
 
-listing-short : (m : Machine) (steps taken : ℕ) → length (listingOf m steps taken) ≤ 1024
+listing-short : (m : State) (steps taken : ℕ) → length (listingOf m steps taken) ≤ 1024
 unfolding listingOf
 listing-short m steps taken =
     simp length-append (omega (arith, counts-short (m .stores) (m .actors) (m .made) steps taken, lines-short m 32))

@@ -3,7 +3,7 @@ use Prim.Native.Nat.{ℕ, _+_}
 use mathlib.Core.List.{List, [], _∷_}
 use lib.ListN.{set, replicate}
 use lib.Dec.{ltb}
-use Rattle.machine.specs.Words.{pick}
+use Rattle.protocol.specs.Words.{pick}
 use Rattle.listing.specs.declared.Text.{Text}
 
 -- nothing is written, and every byte is 0

@@ -1,10 +1,1 @@
-pub mod Words
-pub mod Slots
-pub mod Writes
-pub mod Setup
-pub mod Broken
-pub mod Blank
-pub mod EverySlot
-pub mod Unbroken
-pub mod Bounds
-pub mod Closed
+pub mod Given

@@ -1,129 +1,82 @@
-// The machine value of document 01: its parts, the setup, and the test for a broken value.
-//
-// A view's number is key * 2 + role; a place is store * 32 + view's number.
-
-mod broken;
-mod flight;
-mod fresh;
-mod held;
-mod places;
-mod queues;
-mod views;
-
+// A machine by value: its setup, the test for a broken one, and its steps. Each method hands back the machine and its answer.
 ghost use mathlib.Core.Path.{_≡_};
-ghost use Rattle.machine.specs.Slots.{statusNumber};
+ghost use Rattle.protocol.specs.Broken.{brokenOf};
+ghost use Rattle.protocol.specs.Setup.{answered, emptyMachine, setupOf};
+ghost use Rattle.protocol.specs.Step.{stepOf};
+ghost use Rattle.machine.specs.Given.{given, having};
+use broken::is_broken;
+use protocol::Setup;
+use protocol::State;
+use protocol::Step;
 
-// A view's record at its actor. In phase 0 only the actor is set.
-pub struct View {
-    pub actor: u8,
-    pub phase: u8,
-    // The current store, and the viewlink that is sent beside the record.
-    pub store: u8,
-    pub viewlink: u8,
-    pub changed: bool,
-    // Bit k for interaction k, and a link for each cause; a receiver has none.
-    pub causes: u16,
-    pub word: u32,
-    pub links: [u8; 16],
-}
-
-// An actor's queue: views' numbers, oldest first.
-pub struct Queue {
-    pub len: u8,
-    pub views: [u8; 16],
-}
-
-// What a store holds for a view: nothing, or an asserter, a data word and causes.
-pub struct Contents {
-    pub held: bool,
-    pub asserter: u8,
-    pub causes: u16,
-    pub word: u32,
-}
-
-// The cause links of a sender's contents.
-pub struct Links {
-    pub to: [u8; 16],
-}
-
-// An application message: nothing, or the own store and data word that were sent.
-pub struct Message {
-    pub flying: bool,
-    pub own: u8,
-    pub word: u32,
-}
-
-// A repair: nothing, or a destination and an own store.
-pub struct Repair {
-    pub flying: bool,
-    pub destination: u8,
-    pub own: u8,
-}
-
-pub enum Status {
-    Nothing,
-    ToSend,
-    Waiting,
-    Done,
-}
-
-// 0 nothing, 1 to-send, 2 waiting, 3 done.
-pub fn status_number(s: Status) -> u8
-    ensures { λ r. ⌜ r ≡ statusNumber s ⌝ }
-{
-    match s {
-        Status::Nothing => 0,
-        Status::ToSend => 1,
-        Status::Waiting => 2,
-        Status::Done => 3,
-    }
-}
-
-// The coordinator's state for a view.
-pub struct Entry {
-    pub status: Status,
-    pub destination: u8,
-    pub own: u8,
-}
+mod about;
+mod past;
+mod single;
+mod steps;
 
 pub struct Machine {
-    // How many there are of each.
-    pub stores: u8,
-    pub actors: u8,
-    pub made: u8,
-    // By actor.
-    pub homes: [u8; 8],
-    pub lists: [u8; 8],
-    pub queues: [Queue; 8],
-    // By store.
-    pub up: [bool; 8],
-    // By interaction, and by view.
-    pub messages: [Message; 16],
-    pub views: [View; 32],
-    pub repairs: [Repair; 32],
-    pub entries: [Entry; 32],
-    // Copies in flight, by place.
-    pub records: [u8; 256],
-    pub acks: [u8; 256],
-    pub updates: [u8; 256],
-    pub uacks: [u8; 256],
-    // What the stores hold, by place: contents; the cause links of senders, at store * 16 + key;
-    // and the viewlinks, 0 for none and p + 1 for store p.
-    pub contents: [Contents; 256],
-    pub links: [Links; 128],
-    pub viewlinks: [u8; 256],
-}
-
-// What a setup is made from: rows behind the last actor are not looked at.
-pub struct Setup {
-    pub stores: u8,
-    pub actors: u8,
-    pub homes: [u8; 8],
-    pub lists: [u8; 8],
+    pub state: State,
 }
 
 // A machine and document 01's number: 0 taken, or the refusal.
 pub struct Answered {
     pub machine: Machine,
     pub answer: u8,
+}
+
+impl Machine {
+    // No stores, actors or interactions.
+    pub fn empty() -> Machine
+        ensures { λ r. ⌜ r ≡ having emptyMachine ⌝ }
+    {
+        let state = broken::fresh::empty();
+        Machine { state }
+    }
+
+    // 11 with the empty machine for an illegal setup, or 0 with the fresh machine.
+    pub fn setup(u: Setup) -> Answered
+        ensures { λ r. ⌜ r ≡ given (setupOf u) ⌝ }
+    {
+        let homes = u.homes;
+        let lists = u.lists;
+        let fine = broken::fresh::legal(u.stores, u.actors, homes, lists);
+        if fine {
+            let state = broken::fresh::fresh(u.stores, u.actors, homes, lists);
+            let machine = Machine { state };
+            return Answered { machine, answer: 0 };
+        }
+        let machine = Machine::empty();
+        Answered {
+            machine,
+            answer: 11,
+        }
+    }
+
+    // True exactly where a clause says so, for every value.
+    pub fn broken(self) -> bool
+        ensures { λ r. ⌜ r ≡ brokenOf (self .state) ⌝ }
+    {
+        let m = self.state;
+        is_broken(m)
+    }
+
+    // A refused step gives back the machine unchanged.
+    pub(crate) fn refused(self, number: u8) -> Answered
+        ensures { λ r. ⌜ r ≡ given (answered number (self .state)) ⌝ }
+    {
+        Answered {
+            machine: self,
+            answer: number,
+        }
+    }
+
+    // One step: 1 for a broken value, else what its rule says.
+    pub fn step(self, s: Step) -> Answered
+        ensures { λ r. ⌜ r ≡ given (stepOf (self .state) s) ⌝ }
+    {
+        if self.broken() {
+            return self.refused(1);
+        }
+        self.step_unbroken(s)
+    }
 }

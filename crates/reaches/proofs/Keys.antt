@@ -11,12 +11,12 @@ use lib.Dec.{eqb}
 use lib.ListN.{length, getD, set, take, replicate, length-set, getD-replicate, List·getD-eq-default}
 use lib.Seq.{getD-set-same, getD-set-other, take-suc-set}
 use borrow.Author.Tests.{eq-eqb, ne-eqb, eqb-true, eqb-false}
-use Rattle.machine.specs.Words.{one, times}
-use Rattle.machine.proofs.Laws.Tests.{by-test, not-both}
-use Rattle.walk.specs.declared.Met.{Met}
-use Rattle.walk.specs.Walk.{added, unmet}
-use Rattle.walk.specs.Tally.{Tally}
-use Rattle.walk.proofs.Counted.{room, tally-added, tally-unmet}
+use Rattle.protocol.specs.Words.{one, times}
+use Rattle.unbroken.proofs.Laws.Tests.{by-test, not-both}
+use Rattle.protocol.specs.declared.Met.{Met}
+use Rattle.protocol.specs.Walk.{added, unmet}
+use Rattle.reaches.specs.Tally.{Tally}
+use Rattle.reaches.proofs.Counted.{room, tally-added, tally-unmet}
 
 abbrev pub IsMet : Met → ℕ → Type 0
 IsMet w i = getD (w .met) i false ≡ true

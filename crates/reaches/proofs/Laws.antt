@@ -8,16 +8,16 @@ use native.Mathlib.Omega.{arith}
 use lib.Dec.{leb}
 use lib.ListN.{getD, take, replicate}
 use borrow.Author.Tests.{leb-false}
-use Rattle.machine.specs.Words.{one, times}
-use Rattle.machine.specs.Slots.{number, view}
-use Rattle.machine.specs.Broken.{brokenOf}
-use Rattle.machine.specs.Unbroken.{Unbroken}
-use Rattle.machine.specs.declared.Machine.{Machine}
-use Rattle.machine.proofs.Laws.{unbroken, only}
-use Rattle.machine.proofs.Laws.Tests.{by-test, not-both}
-use Rattle.walk.specs.declared.Walked.{Walked}
-use Rattle.walk.specs.Walk.{unmet, walkedFrom, refusedWalk, walkOf}
-use Rattle.walk.proofs.Counted.{few}
+use Rattle.protocol.specs.Words.{one, times}
+use Rattle.protocol.specs.Slots.{number, view}
+use Rattle.protocol.specs.Broken.{brokenOf}
+use Rattle.unbroken.specs.Unbroken.{Unbroken}
+use Rattle.protocol.specs.declared.State.{State}
+use Rattle.unbroken.proofs.Laws.{unbroken, only}
+use Rattle.unbroken.proofs.Laws.Tests.{by-test, not-both}
+use Rattle.protocol.specs.declared.Walked.{Walked}
+use Rattle.protocol.specs.Walk.{unmet, walkedFrom, refusedWalk, walkOf}
+use Rattle.reaches.proofs.Counted.{few}
 use Rattle.reaches.specs.Reaches.{Reach, here, by, Exactly, OneResult, AnsweredReaches, KeysFew, RefusedEmpty}
 use Rattle.reaches.proofs.Keys.{IsMet, none-met, sound-unmet}
 use Rattle.reaches.proofs.Visited.{Visited, visited}
@@ -26,12 +26,12 @@ pub one-result : OneResult
 one-result m k x y p q = only (walkOf m k) x y p q
 
 -- the four answers of a walk
-data Answer (m : Machine) (k : ℕ) (r : Walked) : Type 0 where
+pub data Answer (m : State) (k : ℕ) (r : Walked) : Type 0 where
   refusing : (n : ℕ) → n ≢ 0 → r ≡ refusedWalk n → Answer m k r
   answering : brokenOf m ≡ false → k < m .made → walkedFrom m k .fine ≡ true
       → r ≡ record { answer = 0; keys = walkedFrom m k .keys; count = walkedFrom m k .count } → Answer m k r
 
-answer : (m : Machine) (k : ℕ) → Answer m k (walkOf m k)
+pub answer : (m : State) (k : ℕ) → Answer m k (walkOf m k)
 unfolding walkOf
 answer m k =
     by-test (brokenOf m)
@@ -42,7 +42,7 @@ answer m k =
     (λ f. simp (b, o, f) (answering b (leb-false (m .made) k o) f refl))
     (λ f. simp (b, o, f) (refusing 13 (λ e. omega arith) refl))))
 
-answer-of : {m : Machine} {k : ℕ} {r : Walked} → r ≡ walkOf m k → Answer m k r
+answer-of : {m : State} {k : ℕ} {r : Walked} → r ≡ walkOf m k → Answer m k r
 answer-of {m} {k} {r} p = subst (λ (x : Walked). Answer m k x) (sym p) (answer m k)
 
 pub refused-empty : RefusedEmpty
@@ -52,7 +52,7 @@ refused-empty m k r p z = go (answer-of p)
     go (refusing n h e) = (ap (λ (x : Walked). x .keys) e, ap (λ (x : Walked). x .count) e)
     go (answering b l f e) = absurd (z (ap (λ (x : Walked). x .answer) e))
 
-module _ (m : Machine) (k : ℕ) (b : brokenOf m ≡ false) (l : k < m .made) (f : walkedFrom m k .fine ≡ true) where
+module _ (m : State) (k : ℕ) (b : brokenOf m ≡ false) (l : k < m .made) (f : walkedFrom m k .fine ≡ true) where
   begun : Visited m k unmet (walkedFrom m k)
   unfolding walkedFrom
   begun =

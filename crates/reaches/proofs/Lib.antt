@@ -1,3 +1,6 @@
+pub mod Behind
+pub mod Counted
 pub mod Keys
 pub mod Visited
 pub mod Laws
+pub mod Applies

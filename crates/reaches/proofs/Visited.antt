@@ -9,27 +9,27 @@ use native.Mathlib.Decide.{decLt}
 use lib.Dec.{eqb}
 use lib.ListN.{getD}
 use borrow.Author.Tests.{not-true}
-use Rattle.machine.specs.Words.{pick, bit}
-use Rattle.machine.specs.Slots.{number, view, contents}
-use Rattle.machine.specs.Closed.{closedOf}
-use Rattle.machine.specs.Unbroken.{Unbroken}
-use Rattle.machine.specs.declared.Machine.{Machine}
-use Rattle.machine.proofs.Laws.Tests.{and-left, and-right, not-both}
-use Rattle.walk.specs.declared.Met.{Met}
-use Rattle.walk.specs.Walk.{added, spoiled, foundOf, causesHeld, hopOf, each, visitOf}
-use Rattle.walk.proofs.Behind.{nothing-held}
+use Rattle.protocol.specs.Words.{pick, bit}
+use Rattle.protocol.specs.Slots.{number, view, contents}
+use Rattle.protocol.specs.Closed.{closedOf}
+use Rattle.unbroken.specs.Unbroken.{Unbroken}
+use Rattle.protocol.specs.declared.State.{State}
+use Rattle.unbroken.proofs.Laws.Tests.{and-left, and-right, not-both}
+use Rattle.protocol.specs.declared.Met.{Met}
+use Rattle.protocol.specs.Walk.{added, spoiled, foundOf, causesHeld, hopOf, each, visitOf}
+use Rattle.reaches.proofs.Behind.{nothing-held}
 use Rattle.reaches.specs.Reaches.{Cause, Reach, here, by}
 use Rattle.reaches.proofs.Keys.{IsMet, Sound, Added, adds}
 
 -- from w to w′: nothing is lost, what is new is in Q, and, where all is fine, the causes of what is new are met
-pub record After (m : Machine) (Q : ℕ → Type 0) (w w′ : Met) : Type 0 where
+pub record After (m : State) (Q : ℕ → Type 0) (w w′ : Met) : Type 0 where
   pub sound : Sound w′
   pub kept : w′ .fine ≡ true → w .fine ≡ true
   pub grows : (i : ℕ) → IsMet w i → IsMet w′ i
   pub from : (i : ℕ) → IsMet w′ i → IsMet w i ⊎ Q i
   pub causes : w′ .fine ≡ true → (i : ℕ) → IsMet w′ i → IsMet w i ⊎ ((c : ℕ) → Cause m i c → IsMet w′ c)
 
-module _ {m : Machine} {Q : ℕ → Type 0} where
+module _ {m : State} {Q : ℕ → Type 0} where
   after-none : {w : Met} → Sound w → After m Q w w
   after-none s = record { sound = s; kept = λ f. f; grows = λ i h. h; from = λ i h. inl h; causes = λ f i h. inl h }
 
@@ -49,16 +49,16 @@ by-pick : (P : Met → Type 0) (b : Bool) {x y : Met} → (b ≡ true → P x) �
 by-pick P true p q = p refl
 by-pick P false p q = q refl
 
-pub record Visited (m : Machine) (k : ℕ) (w w′ : Met) : Type 0 where
+pub record Visited (m : State) (k : ℕ) (w w′ : Met) : Type 0 where
   pub after : After m (Reach m k) w w′
   pub this : w′ .fine ≡ true → IsMet w′ k
 
-record Swept (m : Machine) (Q : ℕ → Type 0) (s j n : ℕ) (w w′ : Met) : Type 0 where
+record Swept (m : State) (Q : ℕ → Type 0) (s j n : ℕ) (w w′ : Met) : Type 0 where
   after : After m Q w w′
   all : w′ .fine ≡ true → (c : ℕ) → j ≤ c → c < j + n → bit s c ≡ true → IsMet w′ c
 
 -- the loop over the causes, where each visit does as it should
-module _ (m : Machine) (top : ℕ) (g : ℕ → Met → Met) (visits : (j : ℕ) (w : Met) → j < top → Sound w → Visited m j w (g j w)) (s : ℕ) (Q : ℕ → Type 0) where
+module _ (m : State) (top : ℕ) (g : ℕ → Met → Met) (visits : (j : ℕ) (w : Met) → j < top → Sound w → Visited m j w (g j w)) (s : ℕ) (Q : ℕ → Type 0) where
   swept : (n j : ℕ) (w : Met) → Sound w → j + n ≤ top → ((c : ℕ) → c < j + n → bit s c ≡ true → (i : ℕ) → Reach m c i → Q i) → Swept m Q s j n w (each g s n j w)
   unfolding each
   swept zero j w h b q = record { after = after-none h; all = λ f c l o e. let z : ⊥ = omega arith in absurd z }
@@ -75,7 +75,7 @@ module _ (m : Machine) (top : ℕ) (g : ℕ → Met → Met) (visits : (j : ℕ)
         ];
       }
 
-module _ (m : Machine) (u : Unbroken m) where
+module _ (m : State) (u : Unbroken m) where
   -- what is found is held, so its causes are the record's
   found-causes : (k link : ℕ) → k < 16 → foundOf m k link ≡ true → causesHeld m k link ≡ view m (number k 0) .causes
   unfolding foundOf

@@ -5,19 +5,19 @@ use mathlib.Core.Logic.{_≢_}
 use mathlib.Core.Bool.{true}
 use mathlib.Core.List.{List}
 use lib.ListN.{take, replicate}
-use Rattle.machine.specs.Words.{bit, times}
-use Rattle.machine.specs.Slots.{number, view}
-use Rattle.machine.specs.declared.Machine.{Machine}
-use Rattle.walk.specs.declared.Walked.{Walked}
-use Rattle.walk.specs.Walk.{walkOf}
+use Rattle.protocol.specs.Words.{bit, times}
+use Rattle.protocol.specs.Slots.{number, view}
+use Rattle.protocol.specs.declared.State.{State}
+use Rattle.protocol.specs.declared.Walked.{Walked}
+use Rattle.protocol.specs.Walk.{walkOf}
 
 -- j is one of the causes that the sender record of k holds: 16 bits, bit j for interaction j
-pub record Cause (m : Machine) (k j : ℕ) : Type 0 where
+pub record Cause (m : State) (k j : ℕ) : Type 0 where
   pub low : j < 16
   pub set : bit (view m (number k 0) .causes) j ≡ true
 
 -- i is reached from k over causes
-pub data Reach (m : Machine) : ℕ → ℕ → Type 0 where
+pub data Reach (m : State) : ℕ → ℕ → Type 0 where
   here : {k : ℕ} → Reach m k k
   by : {k j i : ℕ} → Cause m k j → Reach m j i → Reach m k i
 
@@ -25,22 +25,22 @@ pub data Reach (m : Machine) : ℕ → ℕ → Type 0 where
 abbrev pub keysOf : Walked → List ℕ
 keysOf r = take (r .count) (r .keys)
 
-pub record Exactly (m : Machine) (k : ℕ) (r : Walked) : Type 0 where
+pub record Exactly (m : State) (k : ℕ) (r : Walked) : Type 0 where
   pub once : (i : ℕ) → Reach m k i → times i (keysOf r) ≡ 1
   pub only : (i : ℕ) → 1 ≤ times i (keysOf r) → Reach m k i
 
 -- no two results can both satisfy the promise
 abbrev pub OneResult : Type 0
-OneResult = (m : Machine) (k : ℕ) (x y : Walked) → x ≡ walkOf m k → y ≡ walkOf m k → x ≡ y
+OneResult = (m : State) (k : ℕ) (x y : Walked) → x ≡ walkOf m k → y ≡ walkOf m k → x ≡ y
 
 -- an answered walk (so the machine is not broken) has exactly the keys that are reached, each once
 abbrev pub AnsweredReaches : Type 0
-AnsweredReaches = (m : Machine) (k : ℕ) (r : Walked) → r ≡ walkOf m k → r .answer ≡ 0 → Exactly m k r
+AnsweredReaches = (m : State) (k : ℕ) (r : Walked) → r ≡ walkOf m k → r .answer ≡ 0 → Exactly m k r
 
 -- no walk has more than sixteen keys
 abbrev pub KeysFew : Type 0
-KeysFew = (m : Machine) (k : ℕ) (r : Walked) → r ≡ walkOf m k → r .count ≤ 16
+KeysFew = (m : State) (k : ℕ) (r : Walked) → r ≡ walkOf m k → r .count ≤ 16
 
 -- a refused walk has no keys
 abbrev pub RefusedEmpty : Type 0
-RefusedEmpty = (m : Machine) (k : ℕ) (r : Walked) → r ≡ walkOf m k → r .answer ≢ 0 → (r .keys ≡ replicate 16 0) × (r .count ≡ 0)
+RefusedEmpty = (m : State) (k : ℕ) (r : Walked) → r ≡ walkOf m k → r .answer ≢ 0 → (r .keys ≡ replicate 16 0) × (r .count ≡ 0)

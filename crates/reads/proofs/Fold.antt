@@ -1,28 +1,29 @@
 -- A run folds the steps, and its answers are those of the fold, by induction over the steps that are read. Assumes nothing.
 use Prim.Native.Nat.{ℕ, _+_, _-_, _≤_}
 use mathlib.Core.Path.{_≡_, refl, sym, ap, _∙_}
-use mathlib.Core.Bool.{Bool, true, false, not}
+use mathlib.Core.Logic.{_≢_}
+use mathlib.Core.Bool.{Bool, true, false}
 use mathlib.Core.List.{List, [], _∷_, _++_, append-assoc}
 use native.Mathlib.Omega.{arith}
 use lib.Dec.{eqb}
 use lib.ListN.{length, getD, take, drop}
 use lib.Seq.{getD-at, getD-append-add, getD-drop, take-at}
-use borrow.Author.Tests.{ne-eqb}
-use Rattle.machine.specs.Words.{pick, times}
-use Rattle.machine.specs.Setup.{setupOf}
-use Rattle.machine.specs.declared.Machine.{Machine}
-use Rattle.rules.specs.Step.{stepOf}
-use Rattle.rules.specs.declared.Step.{Step}
-use Rattle.runs.specs.Book.{setupRead, readingOf}
-use Rattle.runs.specs.Run.{ran, answers, stepsRead, freshOf, bookNo, runOf, filled, bufferOf}
-use Rattle.runs.proofs.Formed.{answers-length, accepted, legal-machine}
-use Rattle.reads.specs.Run.{next, folded, RunFolds, AnswersFold, BehindStay, RefusalWritesNothing, TakenAreZeros, OneResult}
+use Rattle.protocol.specs.Words.{pick, times}
+use Rattle.protocol.specs.Setup.{setupOf}
+use Rattle.protocol.specs.declared.State.{State}
+use Rattle.protocol.specs.Step.{stepOf}
+use Rattle.protocol.specs.declared.Step.{Step}
+use Rattle.protocol.specs.Book.{setupRead, readingOf}
+use Rattle.protocol.specs.declared.Ran.{Ran}
+use Rattle.protocol.specs.Run.{ran, answers, stepsRead, freshOf, bookNo, refusedRun, fullRun, runOf, filled, bufferOf}
+use Rattle.reads.proofs.Formed.{answers-length, accepted, legal-machine}
+use Rattle.reads.specs.Run.{next, folded, RunFolds, AnswersFold, BehindStay, RefusedBook, TakenAreZeros, OneResult}
 
 -- a run that is not refused starts from the machine of its setup
-starts : (s : List ℕ) (room : ℕ) → bookNo s room ≡ 0 → setupOf (setupRead s) .machine ≡ freshOf (setupRead s)
+starts : (s : List ℕ) (room : ℕ) → bookNo s room ≡ 0 → setupOf (setupRead s) .state ≡ freshOf (setupRead s)
 starts s room e = legal-machine (setupRead s) (accepted s room e .legal)
 
-ran-folds : (m : Machine) (steps : List Step) → ran m steps ≡ folded next m steps
+ran-folds : (m : State) (steps : List Step) → ran m steps ≡ folded next m steps
 unfolding ran folded
 ran-folds m [] = refl
 ran-folds m (step ∷ steps) = ran-folds (next m step) steps
@@ -32,12 +33,12 @@ unfolding runOf readingOf
 run-folds s room e = rw (starts s room e) (simp e (ran-folds (freshOf (setupRead s)) (stepsRead s)))
 
 -- the answers of a list in two parts
-answers-append : (m : Machine) (xs ys : List Step) → answers m (xs ++ ys) ≡ answers m xs ++ answers (folded next m xs) ys
+answers-append : (m : State) (xs ys : List Step) → answers m (xs ++ ys) ≡ answers m xs ++ answers (folded next m xs) ys
 unfolding answers folded
 answers-append m [] ys = refl
 answers-append m (x ∷ xs) ys = ap (λ (l : List ℕ). stepOf m x .answer ∷ l) (answers-append (next m x) xs ys)
 
-answer-at : (m : Machine) (xs : List Step) (x : Step) (ys : List Step) (buffer : List ℕ) → getD (filled m (xs ++ (x ∷ ys)) buffer) (length xs) 0 ≡ stepOf (folded next m xs) x .answer
+answer-at : (m : State) (xs : List Step) (x : Step) (ys : List Step) (buffer : List ℕ) → getD (filled m (xs ++ (x ∷ ys)) buffer) (length xs) 0 ≡ stepOf (folded next m xs) x .answer
 unfolding filled answers
 answer-at m xs x ys buffer =
     rw (answers-append m xs (x ∷ ys), append-assoc)
@@ -48,7 +49,7 @@ unfolding bufferOf readingOf
 answers-fold s buffer before step behind e q =
     rw (starts s (length buffer) e) (simp (e, q) (answer-at (freshOf (setupRead s)) before step behind buffer))
 
-filled-behind : (m : Machine) (steps : List Step) (buffer : List ℕ) (i : ℕ) → length steps ≤ i → getD (filled m steps buffer) i 0 ≡ getD buffer i 0
+filled-behind : (m : State) (steps : List Step) (buffer : List ℕ) (i : ℕ) → length steps ≤ i → getD (filled m steps buffer) i 0 ≡ getD buffer i 0
 unfolding filled
 filled-behind m steps buffer i h =
     let n : length (answers m steps) ≡ length steps = answers-length m steps in
@@ -66,11 +67,23 @@ behind-stay s buffer i h = go (eqb (bookNo s (length buffer)) 0)
     go true = filled-behind (freshOf (setupRead s)) (stepsRead s) buffer i h
     go false = refl
 
-pub refusal-writes-nothing : RefusalWritesNothing
-unfolding bufferOf
-refusal-writes-nothing s buffer h = simp (ne-eqb _ 0 h)
+-- what the book's number gives
+module _ (s buffer : List ℕ) where
+  abbrev given : Bool → Ran
+  given taken = pick taken (fullRun (freshOf (setupRead s)) (stepsRead s)) (refusedRun (bookNo s (length buffer)))
 
-taken-filled : (m : Machine) (steps : List Step) (buffer : List ℕ) → times 0 (answers m steps) ≡ times 0 (take (length steps) (filled m steps buffer))
+  abbrev left : Bool → List ℕ
+  left taken = pick taken (filled (freshOf (setupRead s)) (stepsRead s) buffer) buffer
+
+  gives-nothing : (taken : Bool) → given taken .answer ≢ 0 → (given taken ≡ refusedRun (given taken .answer)) × (left taken ≡ buffer)
+  gives-nothing true n = absurd (n refl)
+  gives-nothing false n = (refl, refl)
+
+pub refused-book : RefusedBook
+unfolding runOf bufferOf
+refused-book s buffer n = let x = gives-nothing s buffer (eqb (bookNo s (length buffer)) 0) n in record { result = x .0; stays = x .1 }
+
+taken-filled : (m : State) (steps : List Step) (buffer : List ℕ) → times 0 (answers m steps) ≡ times 0 (take (length steps) (filled m steps buffer))
 unfolding filled
 taken-filled m steps buffer = ap (times 0) (sym (take-at (answers m steps) (drop (length steps) buffer) (length steps) (answers-length m steps)))
 

@@ -1,3 +1,10 @@
+pub mod Some
+pub mod Reading
+pub mod Formed
 pub mod Fold
 pub mod Example
 pub mod Again
+pub mod Written
+pub mod Range
+pub mod Both
+pub mod Applies

@@ -2,7 +2,7 @@
 use libc::STDIN_FILENO;
 use libc::STDOUT_FILENO;
 use listing::Text;
-use runs::Ran;
+use protocol::Ran;
 
 // The first n bytes.
 fn write(bytes: [u8; 1024], n: usize) {
@@ -20,7 +20,7 @@ fn answer(ran: Ran) -> Text {
     if ran.answer != 0 {
         return listing::refused(ran.answer);
     }
-    let m = ran.machine;
+    let m = ran.state;
     listing::listing(m, ran.steps, ran.taken)
 }
 

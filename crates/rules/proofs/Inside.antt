@@ -4,13 +4,13 @@ use mathlib.Core.Path.{_≡_, refl}
 use mathlib.Core.Bool.{Bool, true, false, _||_, true≢false}
 use native.Mathlib.Omega.{arith}
 use borrow.Author.Tests.{leb-false}
-use Rattle.machine.specs.Bounds.{Bounds}
-use Rattle.machine.specs.Slots.{number}
-use Rattle.machine.specs.declared.Machine.{Machine}
+use Rattle.unbroken.specs.Bounds.{Bounds}
+use Rattle.protocol.specs.Slots.{number}
+use Rattle.protocol.specs.declared.State.{State}
 use Rattle.rules.specs.About.{aboutOf, outsideOf}
-use Rattle.rules.specs.Rule.{outside}
-use Rattle.rules.specs.declared.Step.{Step}
-use Rattle.rules.specs.declared.Step.the-variants.{Send, Receive, PreCheck, SendRecord, Timeout, TakeRecord, TakeAck, PostCheck, TakeRepair, SendUpdate, TakeUpdate, TakeUack, Expire, Lose, Crash, Restart}
+use Rattle.protocol.specs.Rule.{outside}
+use Rattle.protocol.specs.declared.Step.{Step}
+use Rattle.protocol.specs.declared.Step.the-variants.{Send, Receive, PreCheck, SendRecord, Timeout, TakeRecord, TakeAck, PostCheck, TakeRepair, SendUpdate, TakeUpdate, TakeUack, Expire, Lose, Crash, Restart}
 
 pub first-inside : (a b : Bool) → (a || b) ≡ false → a ≡ false
 first-inside true b e = absurd (true≢false e)
@@ -30,7 +30,7 @@ role-of-view made k r e = leb-false 2 r (last-inside (outside k made) (outside r
 pub role-of-place : (stores made p k r : ℕ) → (outside p stores || outside k made || outside r 2) ≡ false → r < 2
 role-of-place stores made p k r e = leb-false 2 r (last-inside (outside p stores || outside k made) (outside r 2) e)
 
-module _ (m : Machine) (low : Bounds m) where
+module _ (m : State) (low : Bounds m) where
   view-low : (k r : ℕ) → outside k (m .made) ≡ false → r < 2 → number k r < 32
   view-low k r e role = omega (arith, below k (m .made) 16 (low .made16) e)
 

@@ -5,7 +5,7 @@ use mathlib.Core.List.{List, [], _∷_, _++_}
 use native.Mathlib.Omega.{arith}
 use lib.ListN.{length, take, drop, getD}
 use lib.Seq.{take-suc, take-all}
-use Rattle.machine.specs.Words.{table}
+use Rattle.protocol.specs.Words.{table}
 
 -- a list is the table of its elements
 elements : (l : List ℕ) (n : ℕ) → n ≤ length l → take n l ≡ table (λ i. getD l i 0) n

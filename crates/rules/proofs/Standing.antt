@@ -9,16 +9,16 @@ use native.Mathlib.Omega.{arith}
 use borrow.Author.Tests.{leb-false}
 use lib.ListN.{getD, set}
 use lib.Seq.{set-getD, getD-set-other}
-use Rattle.machine.specs.Words.{pick}
-use Rattle.machine.specs.Slots.{number, place}
-use Rattle.machine.specs.Setup.{answered}
-use Rattle.machine.specs.declared.Machine.{Machine}
-use Rattle.machine.specs.declared.Answered.{Answered}
+use Rattle.protocol.specs.Words.{pick}
+use Rattle.protocol.specs.Slots.{number}
+use Rattle.protocol.specs.Setup.{answered}
+use Rattle.protocol.specs.declared.State.{State}
+use Rattle.protocol.specs.Outcome.{Outcome}
 use Rattle.rules.specs.About.{aboutOf}
-use Rattle.rules.specs.Rule.{decided, outside}
+use Rattle.protocol.specs.Rule.{decided, outside}
 use Rattle.rules.specs.Slots.{Stands, opposite, slotsOf, withSlots}
-use Rattle.rules.specs.Step.{ruleOf, numberOf, afterOf}
-use Rattle.rules.specs.declared.Step.{Step}
+use Rattle.protocol.specs.Step.{ruleOf, numberOf, afterOf}
+use Rattle.protocol.specs.declared.Step.{Step}
 use Rattle.rules.specs.declared.slots.Slots.{Slots}
 
 pick-same : {A : Type 0} (b : Bool) (x : A) → pick b x x ≡ x
@@ -26,15 +26,15 @@ pick-same true x = refl
 pick-same false x = refl
 
 -- what is written back as it stood changes nothing
-pub unchanged : {m : Machine} {s : Step} {x : Slots} → Stands m s x → withSlots m (aboutOf s) x ≡ m
+pub unchanged : {m : State} {s : Step} {x : Slots} → Stands m s x → withSlots m (aboutOf s) x ≡ m
 unchanged {m} {s} {x} h = ap (withSlots m (aboutOf s)) (h .slots) ∙ simp (set-getD, pick-same)
 
-pub refuses : {m : Machine} {s : Step} {x : Slots} (h : Stands m s x) (n : ℕ) → eqb n 0 ≡ false → numberOf m s ≡ n → ruleOf m s ≡ answered n (withSlots m (aboutOf s) x)
+pub refuses : {m : State} {s : Step} {x : Slots} (h : Stands m s x) (n : ℕ) → eqb n 0 ≡ false → numberOf m s ≡ n → ruleOf m s ≡ answered n (withSlots m (aboutOf s) x)
 unfolding ruleOf
 refuses {m} {s} {x} h n other e =
     ap (λ (k : ℕ). decided k m (afterOf m s)) e ∙ (ap (λ (b : Bool). pick b (answered 0 (afterOf m s)) (answered n m)) other ∙ sym (ap (answered n) (unchanged h)))
 
-pub grants : {m : Machine} {s : Step} {x : Slots} → Stands m s x → {after : Machine} → numberOf m s ≡ 0 → after ≡ afterOf m s → ruleOf m s ≡ answered 0 after
+pub grants : {m : State} {s : Step} {x : Slots} → Stands m s x → {after : State} → numberOf m s ≡ 0 → after ≡ afterOf m s → ruleOf m s ≡ answered 0 after
 unfolding ruleOf
 grants {m} {s} h e same = ap (λ (k : ℕ). decided k m (afterOf m s)) e ∙ sym (ap (answered 0) same)
 
@@ -55,7 +55,3 @@ beside-view l v x d = beside l v (opposite v) x d (λ e. omega (arith, e))
 pub beside-key : {A : Type 0} (l : List A) (k r : ℕ) → r < 2 → (x d : A)
     → set (set l (number k r) x) (number k (1 - r)) (getD l (number k (1 - r)) d) ≡ set l (number k r) x
 beside-key l k r low x d = beside l (number k r) (number k (1 - r)) x d (λ e. omega (arith, e))
-
-pub beside-place : {A : Type 0} (l : List A) (p k r : ℕ) → r < 2 → (x d : A)
-    → set (set l (place p (number k r)) x) (place p (number k (1 - r))) (getD l (place p (number k (1 - r))) d) ≡ set l (place p (number k r)) x
-beside-place l p k r low x d = beside l (place p (number k r)) (place p (number k (1 - r))) x d (λ e. omega (arith, e))

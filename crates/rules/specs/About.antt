@@ -2,13 +2,13 @@
 use Prim.Native.Nat.{ℕ}
 use mathlib.Core.Bool.{Bool, true, false, _||_}
 use lib.Dec.{eqb, ltb}
-use Rattle.machine.specs.Words.{pick}
-use Rattle.machine.specs.Slots.{number, view, entry}
-use Rattle.machine.specs.declared.Machine.{Machine}
-use Rattle.rules.specs.Rule.{outside, head}
+use Rattle.protocol.specs.Words.{pick}
+use Rattle.protocol.specs.Slots.{number, view, entry}
+use Rattle.protocol.specs.declared.State.{State}
+use Rattle.protocol.specs.Rule.{outside, head}
 use Rattle.rules.specs.declared.about.About.{About}
-use Rattle.rules.specs.declared.Step.{Step}
-use Rattle.rules.specs.declared.Step.the-variants.{Send, Receive, PreCheck, SendRecord, Timeout, TakeRecord, TakeAck, PostCheck, TakeRepair, SendUpdate, TakeUpdate, TakeUack, Expire, Lose, Crash, Restart}
+use Rattle.protocol.specs.declared.Step.{Step}
+use Rattle.protocol.specs.declared.Step.the-variants.{Send, Receive, PreCheck, SendRecord, Timeout, TakeRecord, TakeAck, PostCheck, TakeRepair, SendUpdate, TakeUpdate, TakeUack, Expire, Lose, Crash, Restart}
 
 -- send and pre-check look back at the receipts of their actor; send makes an interaction too
 abbrev pub lookingBack : ℕ → Bool → ℕ → ℕ → ℕ → About
@@ -58,13 +58,13 @@ abbrev pub nextView : ℕ → ℕ
 nextView made = pick (ltb made 16) (number made 0) 0
 
 -- the view, the actor and the store, in a machine
-abbrev pub viewAbout : Machine → About → ℕ
+abbrev pub viewAbout : State → About → ℕ
 viewAbout m b = pick (b .acting) (pick (b .making) (nextView (m .made)) (head m (b .actor))) (b .view)
 
-abbrev pub actorAbout : Machine → About → ℕ
+abbrev pub actorAbout : State → About → ℕ
 actorAbout m b = pick (b .acting) (b .actor) (view m (viewAbout m b) .actor)
 
-abbrev pub storeAbout : Machine → About → ℕ
+abbrev pub storeAbout : State → About → ℕ
 storeAbout m b = storeOf (b .whose) (b .store) (view m (viewAbout m b) .store) (entry m (viewAbout m b) .destination)
 
 -- a number that the step names isn't in a machine of so many stores, actors and interactions

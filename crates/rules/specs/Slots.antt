@@ -3,20 +3,21 @@ use Prim.Native.Nat.{ℕ, _-_, _/_, _%_, _<_}
 use mathlib.Core.Bool.{true, false}
 use mathlib.Core.Path.{_≡_}
 use lib.ListN.{getD, set}
-use Rattle.machine.specs.Words.{pick, table}
-use Rattle.machine.specs.Slots.{number, place, linksPlace, home, list, queue, message, view, repair, entry, isUp, recordCopies, ackCopies, updateCopies, uackCopies, contents, viewlink, noLinks}
-use Rattle.machine.specs.Setup.{answered, blankView}
-use Rattle.machine.specs.declared.Machine.{Machine}
-use Rattle.machine.specs.declared.View.{View}
-use Rattle.machine.specs.declared.Answered.{Answered}
+use Rattle.protocol.specs.Words.{pick, table}
+use Rattle.protocol.specs.Slots.{number, place, linksPlace, home, list, queue, message, view, repair, entry, shelf, recordCopies, ackCopies, updateCopies, uackCopies, contents, noLinks}
+use Rattle.protocol.specs.Views.{blankView}
+use Rattle.protocol.specs.Setup.{answered}
+use Rattle.protocol.specs.declared.State.{State}
+use Rattle.protocol.specs.declared.View.{View}
+use Rattle.protocol.specs.Outcome.{Outcome}
 use Rattle.rules.specs.About.{aboutOf, actorAbout, viewAbout, storeAbout, outsideOf}
-use Rattle.rules.specs.PreCheck.{checkedLink}
-use Rattle.rules.specs.Send.{causesKnown}
+use Rattle.protocol.specs.PreCheck.{checkedLink}
+use Rattle.protocol.specs.Send.{causesKnown}
 use Rattle.rules.specs.declared.about.About.{About}
 use Rattle.rules.specs.declared.past.Past.{Past}
 use Rattle.rules.specs.declared.slots.Slots.{Slots}
 use Rattle.rules.specs.declared.slots.Tried.{Tried}
-use Rattle.rules.specs.declared.Step.{Step}
+use Rattle.protocol.specs.declared.Step.{Step}
 
 -- the number of the opposite view
 abbrev pub opposite : ℕ → ℕ
@@ -24,17 +25,17 @@ opposite v = number (v / 2) (1 - v % 2)
 
 -- what a step looks back at: whether its actor has received every cause, and the view's cause links, each brought up to its
 -- receipt
-abbrev pub pastOf : Machine → ℕ → ℕ → View → Past
+abbrev pub pastOf : State → ℕ → ℕ → View → Past
 pastOf m a causes w = record { known = causesKnown m a causes; links = table (checkedLink m w) 16 }
 
 abbrev pub noPast : Past
 noPast = record { known = true; links = blankView .links }
 
-abbrev pub pastAbout : Machine → About → ℕ → Past
+abbrev pub pastAbout : State → About → ℕ → Past
 pastAbout m b v = pick (b .back) (pastOf m (b .actor) (b .causes) (view m v)) noPast
 
 -- the slots of an actor, a view and a store, with what a step about them looks back at
-abbrev pub slotsAt : Machine → About → ℕ → ℕ → ℕ → Past → Slots
+abbrev pub slotsAt : State → About → ℕ → ℕ → ℕ → Past → Slots
 slotsAt m b a v p past =
     record {
       number = v;
@@ -51,19 +52,17 @@ slotsAt m b a v p past =
       entry = entry m v;
       facing = view m (opposite v);
       other = entry m (opposite v);
-      up = isUp m p;
+      shelf = shelf m p;
       records = recordCopies m p v;
       acks = ackCopies m p v;
       updates = updateCopies m p v;
       uacks = uackCopies m p v;
       contents = contents m p v;
       links = getD (m .links) (linksPlace p (v / 2)) noLinks;
-      viewlink = viewlink m p v;
-      across = viewlink m p (opposite v);
     }
 
 -- the machine with these slots written; the number made is written by a step that makes an interaction alone
-abbrev pub withSlotsAt : Machine → About → ℕ → ℕ → ℕ → Slots → Machine
+abbrev pub withSlotsAt : State → About → ℕ → ℕ → ℕ → Slots → State
 withSlotsAt m b a v p x =
     record {
       stores = m .stores;
@@ -72,7 +71,7 @@ withSlotsAt m b a v p x =
       homes = m .homes;
       lists = m .lists;
       queues = set (m .queues) a (x .queue);
-      up = set (m .up) p (x .up);
+      shelves = set (m .shelves) p (x .shelf);
       messages = set (m .messages) (v / 2) (x .message);
       views = set (set (m .views) v (x .view)) (opposite v) (x .facing);
       repairs = set (m .repairs) v (x .repair);
@@ -83,22 +82,21 @@ withSlotsAt m b a v p x =
       uacks = set (m .uacks) (place p v) (x .uacks);
       contents = set (m .contents) (place p v) (x .contents);
       links = set (m .links) (linksPlace p (v / 2)) (x .links);
-      viewlinks = set (set (m .viewlinks) (place p v) (x .viewlink)) (place p (opposite v)) (x .across);
     }
 
 -- the slots that a step is about
-abbrev pub slotsOf : Machine → About → Slots
+abbrev pub slotsOf : State → About → Slots
 slotsOf m b = slotsAt m b (actorAbout m b) (viewAbout m b) (storeAbout m b) (pastAbout m b (viewAbout m b))
 
-abbrev pub withSlots : Machine → About → Slots → Machine
+abbrev pub withSlots : State → About → Slots → State
 withSlots m b x = withSlotsAt m b (actorAbout m b) (viewAbout m b) (storeAbout m b) x
 
 -- what comes of a step's number and slots
-abbrev pub outcome : Machine → Step → Tried → Answered
+abbrev pub outcome : State → Step → Tried → Outcome
 outcome m s t = answered (t .answer) (withSlots m (aboutOf s) (t .slots))
 
 -- x stands in the slots that the step is about, and the numbers that it names are in the machine
-pub record Stands (m : Machine) (s : Step) (x : Slots) : Type 0 where
+pub record Stands (m : State) (s : Step) (x : Slots) : Type 0 where
   pub inside : outsideOf (m .stores) (m .actors) (m .made) s ≡ false
   pub slots : x ≡ slotsOf m (aboutOf s)
 

@@ -1,23 +1,25 @@
 // Step 15, crash: store.
 ghost use Prim.Native.Nat.{ℕ};
 ghost use mathlib.Core.Path.{_≡_};
-ghost use Rattle.machine.specs.declared.Machine.{Machine};
+ghost use Rattle.protocol.specs.declared.State.{State};
 ghost use Rattle.rules.specs.Slots.{Stands, outcome};
-ghost use Rattle.rules.specs.Step.{ruleOf};
-ghost use Rattle.rules.specs.declared.Step.the-variants.{Crash};
+ghost use Rattle.protocol.specs.Step.{ruleOf};
+ghost use Rattle.protocol.specs.declared.Step.the-variants.{Crash};
 use crate::slots::Slots;
 use crate::slots::Tried;
 
 impl Slots {
     // Up becomes down.
     pub(crate) fn crash(self) -> Tried
-        ensures { λ r. ⌜ ((m : Machine) (p : ℕ) → Stands m (Crash p) self → ruleOf m (Crash p) ≡ outcome m (Crash p) r) ⌝ }
+        ensures { λ r. ⌜ ((m : State) (p : ℕ) → Stands m (Crash p) self → ruleOf m (Crash p) ≡ outcome m (Crash p) r) ⌝ }
     {
-        if !self.up {
+        let mut s = self.shelf;
+        if !s.up {
             return self.with(5);
         }
+        s.up = false;
         let mut x = self;
-        x.up = false;
+        x.shelf = s;
         Tried {
             answer: 0,
             slots: x,

@@ -1,20 +1,20 @@
 // Step 13, coordinator timeout: key, role.
 ghost use Prim.Native.Nat.{ℕ};
 ghost use mathlib.Core.Path.{_≡_};
-ghost use Rattle.machine.specs.declared.Machine.{Machine};
+ghost use Rattle.protocol.specs.declared.State.{State};
 ghost use Rattle.rules.specs.Slots.{Stands, outcome};
-ghost use Rattle.rules.specs.Step.{ruleOf};
-ghost use Rattle.rules.specs.declared.Step.the-variants.{Expire};
+ghost use Rattle.protocol.specs.Step.{ruleOf};
+ghost use Rattle.protocol.specs.declared.Step.the-variants.{Expire};
 use crate::slots::Slots;
 use crate::slots::Tried;
-use machine::Entry;
-use machine::Status;
-use machine::status_number;
+use protocol::Entry;
+use protocol::Status;
+use protocol::status_number;
 
 impl Slots {
     // Waiting becomes to-send.
     pub(crate) fn expire(self) -> Tried
-        ensures { λ r. ⌜ ((m : Machine) (k role : ℕ) → Stands m (Expire k role) self → ruleOf m (Expire k role) ≡ outcome m (Expire k role) r) ⌝ }
+        ensures { λ r. ⌜ ((m : State) (k role : ℕ) → Stands m (Expire k role) self → ruleOf m (Expire k role) ≡ outcome m (Expire k role) r) ⌝ }
     {
         let e = self.entry;
         let s = e.status;

@@ -2,21 +2,21 @@
 ghost use Prim.Native.Nat.{ℕ};
 ghost use mathlib.Core.Path.{_≡_};
 ghost use lib.Dec.{eqb};
-ghost use Rattle.machine.specs.Setup.{answered};
-ghost use Rattle.machine.specs.Slots.{number};
-ghost use Rattle.machine.specs.Words.{pick};
-ghost use Rattle.machine.specs.declared.Machine.{Machine};
-ghost use Rattle.rules.specs.Lose.{withCopies};
+ghost use Rattle.protocol.specs.Setup.{answered};
+ghost use Rattle.protocol.specs.Slots.{number};
+ghost use Rattle.protocol.specs.Words.{pick};
+ghost use Rattle.protocol.specs.declared.State.{State};
+ghost use Rattle.protocol.specs.Lose.{withCopies};
 ghost use Rattle.rules.specs.Slots.{Stands, outcome};
-ghost use Rattle.rules.specs.Step.{ruleOf};
-ghost use Rattle.rules.specs.declared.Step.the-variants.{Lose};
+ghost use Rattle.protocol.specs.Step.{ruleOf};
+ghost use Rattle.protocol.specs.declared.Step.the-variants.{Lose};
 use crate::slots::Slots;
 use crate::slots::Tried;
 
 impl Slots {
     // One copy goes.
     pub(crate) fn lose(self, what: u8) -> Tried
-        ensures { λ r. ⌜ ((m : Machine) (p k role : ℕ) → Stands m (Lose what p k role) self → ruleOf m (Lose what p k role) ≡ outcome m (Lose what p k role) r) ⌝ }
+        ensures { λ r. ⌜ ((m : State) (p k role : ℕ) → Stands m (Lose what p k role) self → ruleOf m (Lose what p k role) ≡ outcome m (Lose what p k role) r) ⌝ }
     {
         let copies = copies(what, self.records, self.acks, self.updates, self.uacks);
         if copies == 0 {
@@ -27,7 +27,7 @@ impl Slots {
 
     // The count of what is named becomes n.
     fn lost(self, what: u8, n: u8) -> Tried
-        ensures { λ r. ⌜ ((m : Machine) (p k role : ℕ) → Stands m (Lose what p k role) self → outcome m (Lose what p k role) r ≡ answered 0 (withCopies m what p (number k role) n)) ⌝ }
+        ensures { λ r. ⌜ ((m : State) (p k role : ℕ) → Stands m (Lose what p k role) self → outcome m (Lose what p k role) r ≡ answered 0 (withCopies m what p (number k role) n)) ⌝ }
     {
         let mut x = self;
         if what == 0 {

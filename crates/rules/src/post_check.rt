@@ -1,21 +1,21 @@
 // Step 8, post-check: actor.
 ghost use Prim.Native.Nat.{ℕ, _<_};
 ghost use mathlib.Core.Path.{_≡_};
-ghost use Rattle.machine.specs.declared.Machine.{Machine};
+ghost use Rattle.protocol.specs.declared.State.{State};
 ghost use Rattle.rules.specs.Slots.{Stands, outcome};
-ghost use Rattle.rules.specs.Step.{ruleOf};
-ghost use Rattle.rules.specs.PostCheck.{askedRepair, left};
-ghost use Rattle.rules.specs.declared.Step.the-variants.{PostCheck};
+ghost use Rattle.protocol.specs.Step.{ruleOf};
+ghost use Rattle.protocol.specs.PostCheck.{askedRepair, left};
+ghost use Rattle.protocol.specs.declared.Step.the-variants.{PostCheck};
 use crate::slots::Slots;
 use crate::slots::Tried;
-use machine::Queue;
-use machine::Repair;
-use machine::View;
+use protocol::Queue;
+use protocol::Repair;
+use protocol::View;
 
 impl Slots {
     // Head in phase 4. If changed, a repair goes off. The head leaves the queue, phase 5.
     pub(crate) fn post_check(self) -> Tried
-        ensures { λ r. ⌜ ((m : Machine) (a : ℕ) → Stands m (PostCheck a) self → ruleOf m (PostCheck a) ≡ outcome m (PostCheck a) r) ⌝ }
+        ensures { λ r. ⌜ ((m : State) (a : ℕ) → Stands m (PostCheck a) self → ruleOf m (PostCheck a) ≡ outcome m (PostCheck a) r) ⌝ }
     {
         let q = self.queue;
         if q.len == 0 {

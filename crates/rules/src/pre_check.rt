@@ -2,22 +2,22 @@
 ghost use Prim.Native.Nat.{ℕ, _<_};
 ghost use mathlib.Core.Bool.{_&&_};
 ghost use mathlib.Core.Path.{_≡_};
-ghost use Rattle.machine.specs.Setup.{emptyMachine};
-ghost use Rattle.machine.specs.Words.{bit, pick, table};
-ghost use Rattle.machine.specs.Writes.{withViews};
-ghost use Rattle.machine.specs.declared.Machine.{Machine};
-ghost use Rattle.rules.specs.PreCheck.{checkedLink};
+ghost use Rattle.protocol.specs.Setup.{emptyMachine};
+ghost use Rattle.protocol.specs.Words.{bit, pick, table};
+ghost use Rattle.protocol.specs.Writes.{withViews};
+ghost use Rattle.protocol.specs.declared.State.{State};
+ghost use Rattle.protocol.specs.PreCheck.{checkedLink};
 ghost use Rattle.rules.specs.Slots.{Stands, outcome};
-ghost use Rattle.rules.specs.Step.{ruleOf};
-ghost use Rattle.rules.specs.declared.Step.the-variants.{PreCheck};
+ghost use Rattle.protocol.specs.Step.{ruleOf};
+ghost use Rattle.protocol.specs.declared.Step.the-variants.{PreCheck};
 use crate::slots::Slots;
 use crate::slots::Tried;
-use machine::View;
+use protocol::View;
 
 impl Slots {
     // Head in phase 1. Each cause link becomes the store recorded for that receipt if its changed flag is set. Phase 2.
     pub(crate) fn pre_check(self) -> Tried
-        ensures { λ r. ⌜ ((m : Machine) (a : ℕ) → Stands m (PreCheck a) self → ruleOf m (PreCheck a) ≡ outcome m (PreCheck a) r) ⌝ }
+        ensures { λ r. ⌜ ((m : State) (a : ℕ) → Stands m (PreCheck a) self → ruleOf m (PreCheck a) ≡ outcome m (PreCheck a) r) ⌝ }
     {
         let q = self.queue;
         if q.len == 0 {

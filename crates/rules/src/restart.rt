@@ -1,23 +1,25 @@
 // Step 16, restart: store.
 ghost use Prim.Native.Nat.{ℕ};
 ghost use mathlib.Core.Path.{_≡_};
-ghost use Rattle.machine.specs.declared.Machine.{Machine};
+ghost use Rattle.protocol.specs.declared.State.{State};
 ghost use Rattle.rules.specs.Slots.{Stands, outcome};
-ghost use Rattle.rules.specs.Step.{ruleOf};
-ghost use Rattle.rules.specs.declared.Step.the-variants.{Restart};
+ghost use Rattle.protocol.specs.Step.{ruleOf};
+ghost use Rattle.protocol.specs.declared.Step.the-variants.{Restart};
 use crate::slots::Slots;
 use crate::slots::Tried;
 
 impl Slots {
     // Down becomes up.
     pub(crate) fn restart(self) -> Tried
-        ensures { λ r. ⌜ ((m : Machine) (p : ℕ) → Stands m (Restart p) self → ruleOf m (Restart p) ≡ outcome m (Restart p) r) ⌝ }
+        ensures { λ r. ⌜ ((m : State) (p : ℕ) → Stands m (Restart p) self → ruleOf m (Restart p) ≡ outcome m (Restart p) r) ⌝ }
     {
-        if self.up {
+        let mut s = self.shelf;
+        if s.up {
             return self.with(6);
         }
+        s.up = true;
         let mut x = self;
-        x.up = true;
+        x.shelf = s;
         Tried {
             answer: 0,
             slots: x,

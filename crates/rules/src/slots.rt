@@ -1,21 +1,22 @@
 // What stands in the slots that a step is about. A rule takes them and gives them back, so that whoever calls it
 // reads and writes a machine in place.
 ghost use mathlib.Core.Path.{_≡_};
-ghost use Rattle.machine.specs.declared.Machine.{Machine as State};
+ghost use Rattle.protocol.specs.declared.State.{State};
 ghost use Rattle.rules.specs.About.{aboutOf};
 ghost use Rattle.rules.specs.Slots.{Fits, Stands, outcome};
-ghost use Rattle.rules.specs.Step.{ruleOf};
-use crate::Step;
+ghost use Rattle.protocol.specs.Step.{ruleOf};
 use crate::past::Past;
-use machine::Contents;
-use machine::Entry;
-use machine::Links;
-use machine::Message;
-use machine::Queue;
-use machine::Repair;
-use machine::View;
+use protocol::Contents;
+use protocol::Entry;
+use protocol::Links;
+use protocol::Message;
+use protocol::Queue;
+use protocol::Repair;
+use protocol::Step;
+use protocol::Store;
+use protocol::View;
 
-pub(crate) struct Slots {
+pub struct Slots {
     // Which view and which store; home and list of the actor; home of the other actor; what the step looks back at.
     // No rule writes these.
     pub number: usize,
@@ -26,7 +27,7 @@ pub(crate) struct Slots {
     pub past: Past,
     // How many interactions are made.
     pub made: u8,
-    // Of the actor, of the interaction, of the view, of the opposite view, of the store.
+    // Of the actor, of the interaction, of the view, of the opposite view; the store.
     pub queue: Queue,
     pub message: Message,
     pub view: View,
@@ -34,21 +35,19 @@ pub(crate) struct Slots {
     pub entry: Entry,
     pub facing: View,
     pub other: Entry,
-    pub up: bool,
+    pub shelf: Store,
     // Copies in flight at the store for the view.
     pub records: u8,
     pub acks: u8,
     pub updates: u8,
     pub uacks: u8,
-    // What the store holds for the view, and the opposite view's link there.
+    // What the store holds of the view's record.
     pub contents: Contents,
     pub links: Links,
-    pub viewlink: u8,
-    pub across: u8,
 }
 
 // The slots after a step, and its number.
-pub(crate) struct Tried {
+pub struct Tried {
     pub answer: u8,
     pub slots: Slots,
 }
@@ -65,7 +64,7 @@ impl Slots {
     }
 
     // The rule of a step.
-    pub(crate) fn rule(self, s: Step) -> Tried
+    pub fn rule(self, s: Step) -> Tried
         requires { ⌜ Fits (aboutOf s) self ⌝ }
         ensures { λ r. ⌜ ((m : State) → Stands m s self → ruleOf m s ≡ outcome m s r) ⌝ }
     {

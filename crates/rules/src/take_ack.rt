@@ -1,24 +1,24 @@
 // Step 7, actor takes ack: store, key, role.
 ghost use Prim.Native.Nat.{ℕ};
 ghost use mathlib.Core.Path.{_≡_};
-ghost use Rattle.machine.specs.declared.Machine.{Machine};
+ghost use Rattle.protocol.specs.declared.State.{State};
 ghost use Rattle.rules.specs.Slots.{Stands, outcome};
-ghost use Rattle.rules.specs.Step.{ruleOf};
+ghost use Rattle.protocol.specs.Step.{ruleOf};
 ghost use mathlib.Core.Bool.{_&&_, not};
 ghost use lib.Dec.{eqb};
 ghost use lib.ListN.{getD};
-ghost use Rattle.machine.specs.Words.{pick};
-ghost use Rattle.rules.specs.Rule.{phased};
-ghost use Rattle.rules.specs.declared.Step.the-variants.{TakeAck};
+ghost use Rattle.protocol.specs.Words.{pick};
+ghost use Rattle.protocol.specs.Views.{phased};
+ghost use Rattle.protocol.specs.declared.Step.the-variants.{TakeAck};
 use crate::slots::Slots;
 use crate::slots::Tried;
-use machine::Queue;
-use machine::View;
+use protocol::Queue;
+use protocol::View;
 
 impl Slots {
     // A copy in flight. The copy goes; it counts for its queue's head alone, from the current store.
     pub(crate) fn take_ack(self) -> Tried
-        ensures { λ r. ⌜ ((m : Machine) (p k role : ℕ) → Stands m (TakeAck p k role) self → ruleOf m (TakeAck p k role) ≡ outcome m (TakeAck p k role) r) ⌝ }
+        ensures { λ r. ⌜ ((m : State) (p k role : ℕ) → Stands m (TakeAck p k role) self → ruleOf m (TakeAck p k role) ≡ outcome m (TakeAck p k role) r) ⌝ }
     {
         if self.acks == 0 {
             return self.with(7);

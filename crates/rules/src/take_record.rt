@@ -1,25 +1,26 @@
 // Step 6, store takes record: store, key, role.
 ghost use Prim.Native.Nat.{ℕ, _<_};
 ghost use mathlib.Core.Path.{_≡_};
-ghost use Rattle.machine.specs.declared.Machine.{Machine};
+ghost use Rattle.protocol.specs.declared.State.{State};
 ghost use Rattle.rules.specs.Slots.{Stands, outcome};
-ghost use Rattle.rules.specs.Step.{ruleOf};
-ghost use Rattle.rules.specs.TakeRecord.{writtenContents, writtenLinks, writtenViewlink};
-ghost use Rattle.rules.specs.declared.Step.the-variants.{TakeRecord};
+ghost use Rattle.protocol.specs.Step.{ruleOf};
+ghost use Rattle.protocol.specs.TakeRecord.{writtenContents, writtenLinks, writtenViewlink};
+ghost use Rattle.protocol.specs.declared.Step.the-variants.{TakeRecord};
 use crate::rule::one_more;
 use crate::slots::Slots;
 use crate::slots::Tried;
-use machine::Contents;
-use machine::Links;
-use machine::View;
+use protocol::Contents;
+use protocol::Links;
+use protocol::View;
 
 impl Slots {
     // Store up, a copy in flight. The copy goes; contents and viewlink are written only where none were. One ack copy.
     pub(crate) fn take_record(self) -> Tried
-        requires { ⌜ self .view .viewlink < 8 ⌝ }
-        ensures { λ r. ⌜ ((m : Machine) (p k role : ℕ) → Stands m (TakeRecord p k role) self → ruleOf m (TakeRecord p k role) ≡ outcome m (TakeRecord p k role) r) ⌝ }
+        requires { ⌜ (self .number < 32) × (self .view .viewlink < 8) ⌝ }
+        ensures { λ r. ⌜ ((m : State) (p k role : ℕ) → Stands m (TakeRecord p k role) self → ruleOf m (TakeRecord p k role) ≡ outcome m (TakeRecord p k role) r) ⌝ }
     {
-        if !self.up {
+        let mut s = self.shelf;
+        if !s.up {
             return self.with(5);
         }
         if self.records == 0 {
@@ -27,17 +28,19 @@ impl Slots {
         }
         let w = self.view;
         let held = self.contents;
-        let role = (self.number % 2) as u8;
+        let v = self.number;
+        let role = (v % 2) as u8;
         let contents = written_contents(held, w);
         let links = written_links(role, held, w, self.links);
-        let viewlink = written_viewlink(self.viewlink, w);
+        let viewlink = written_viewlink(s.viewlinks[v], w);
         let acks = one_more(self.acks);
+        s.viewlinks[v] = viewlink;
         let mut x = self;
         x.records -= 1;
         x.acks = acks;
         x.contents = contents;
         x.links = links;
-        x.viewlink = viewlink;
+        x.shelf = s;
         Tried {
             answer: 0,
             slots: x,

@@ -1,22 +1,22 @@
 // Step 9, coordinator takes repair: key, role.
 ghost use Prim.Native.Nat.{ℕ};
 ghost use mathlib.Core.Path.{_≡_};
-ghost use Rattle.machine.specs.declared.Machine.{Machine};
+ghost use Rattle.protocol.specs.declared.State.{State};
 ghost use Rattle.rules.specs.Slots.{Stands, outcome};
-ghost use Rattle.rules.specs.Step.{ruleOf};
-ghost use Rattle.rules.specs.TakeRepair.{redirectedEntry, repairedEntry};
-ghost use Rattle.rules.specs.declared.Step.the-variants.{TakeRepair};
+ghost use Rattle.protocol.specs.Step.{ruleOf};
+ghost use Rattle.protocol.specs.TakeRepair.{redirectedEntry, repairedEntry};
+ghost use Rattle.protocol.specs.declared.Step.the-variants.{TakeRepair};
 use crate::slots::Slots;
 use crate::slots::Tried;
-use machine::Entry;
-use machine::Repair;
-use machine::Status;
-use machine::status_number;
+use protocol::Entry;
+use protocol::Repair;
+use protocol::Status;
+use protocol::status_number;
 
 impl Slots {
     // One in flight. If the other role has an entry, each entry's destination is the other's own store; both are to-send.
     pub(crate) fn take_repair(self) -> Tried
-        ensures { λ r. ⌜ ((m : Machine) (k role : ℕ) → Stands m (TakeRepair k role) self → ruleOf m (TakeRepair k role) ≡ outcome m (TakeRepair k role) r) ⌝ }
+        ensures { λ r. ⌜ ((m : State) (k role : ℕ) → Stands m (TakeRepair k role) self → ruleOf m (TakeRepair k role) ≡ outcome m (TakeRepair k role) r) ⌝ }
     {
         let sent = self.repair;
         if !sent.flying {

@@ -1,21 +1,21 @@
 // Step 12, coordinator takes uack: store, key, role.
 ghost use Prim.Native.Nat.{ℕ};
 ghost use mathlib.Core.Path.{_≡_};
-ghost use Rattle.machine.specs.declared.Machine.{Machine};
+ghost use Rattle.protocol.specs.declared.State.{State};
 ghost use Rattle.rules.specs.Slots.{Stands, outcome};
-ghost use Rattle.rules.specs.Step.{ruleOf};
-ghost use Rattle.rules.specs.TakeUack.{finishedEntry};
-ghost use Rattle.rules.specs.declared.Step.the-variants.{TakeUack};
+ghost use Rattle.protocol.specs.Step.{ruleOf};
+ghost use Rattle.protocol.specs.TakeUack.{finishedEntry};
+ghost use Rattle.protocol.specs.declared.Step.the-variants.{TakeUack};
 use crate::slots::Slots;
 use crate::slots::Tried;
-use machine::Entry;
-use machine::Status;
-use machine::status_number;
+use protocol::Entry;
+use protocol::Status;
+use protocol::status_number;
 
 impl Slots {
     // A copy in flight; it goes. If waiting and the store is the destination: done.
     pub(crate) fn take_uack(self) -> Tried
-        ensures { λ r. ⌜ ((m : Machine) (p k role : ℕ) → Stands m (TakeUack p k role) self → ruleOf m (TakeUack p k role) ≡ outcome m (TakeUack p k role) r) ⌝ }
+        ensures { λ r. ⌜ ((m : State) (p k role : ℕ) → Stands m (TakeUack p k role) self → ruleOf m (TakeUack p k role) ≡ outcome m (TakeUack p k role) r) ⌝ }
     {
         if self.uacks == 0 {
             return self.with(7);

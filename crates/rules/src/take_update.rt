@@ -1,10 +1,10 @@
 // Step 11, store takes update: store, key, role.
 ghost use Prim.Native.Nat.{ℕ, _<_};
 ghost use mathlib.Core.Path.{_≡_};
-ghost use Rattle.machine.specs.declared.Machine.{Machine};
+ghost use Rattle.protocol.specs.declared.State.{State};
 ghost use Rattle.rules.specs.Slots.{Stands, outcome};
-ghost use Rattle.rules.specs.Step.{ruleOf};
-ghost use Rattle.rules.specs.declared.Step.the-variants.{TakeUpdate};
+ghost use Rattle.protocol.specs.Step.{ruleOf};
+ghost use Rattle.protocol.specs.declared.Step.the-variants.{TakeUpdate};
 use crate::rule::one_more;
 use crate::slots::Slots;
 use crate::slots::Tried;
@@ -12,21 +12,25 @@ use crate::slots::Tried;
 impl Slots {
     // Store up, a copy in flight. The copy goes; the opposite view's link there becomes the entry's own store. One uack copy.
     pub(crate) fn take_update(self) -> Tried
-        requires { ⌜ self .entry .own < 8 ⌝ }
-        ensures { λ r. ⌜ ((m : Machine) (p k role : ℕ) → Stands m (TakeUpdate p k role) self → ruleOf m (TakeUpdate p k role) ≡ outcome m (TakeUpdate p k role) r) ⌝ }
+        requires { ⌜ (self .number < 32) × (self .entry .own < 8) ⌝ }
+        ensures { λ r. ⌜ ((m : State) (p k role : ℕ) → Stands m (TakeUpdate p k role) self → ruleOf m (TakeUpdate p k role) ≡ outcome m (TakeUpdate p k role) r) ⌝ }
     {
-        if !self.up {
+        let mut s = self.shelf;
+        if !s.up {
             return self.with(5);
         }
         if self.updates == 0 {
             return self.with(7);
         }
         let e = self.entry;
+        let v = self.number;
+        let o = v / 2 * 2 + (1 - v % 2);
         let uacks = one_more(self.uacks);
+        s.viewlinks[o] = e.own + 1;
         let mut x = self;
         x.updates -= 1;
-        x.across = e.own + 1;
         x.uacks = uacks;
+        x.shelf = s;
         Tried {
             answer: 0,
             slots: x,

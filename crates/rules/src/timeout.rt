@@ -1,10 +1,10 @@
 // Step 5, timeout: actor, store.
 ghost use Prim.Native.Nat.{ℕ, _<_};
 ghost use mathlib.Core.Path.{_≡_};
-ghost use Rattle.machine.specs.declared.Machine.{Machine};
+ghost use Rattle.protocol.specs.declared.State.{State};
 ghost use Rattle.rules.specs.Slots.{Stands, outcome};
-ghost use Rattle.rules.specs.Step.{ruleOf};
-ghost use Rattle.rules.specs.declared.Step.the-variants.{Timeout};
+ghost use Rattle.protocol.specs.Step.{ruleOf};
+ghost use Rattle.protocol.specs.declared.Step.the-variants.{Timeout};
 use crate::slots::Slots;
 use crate::slots::Tried;
 
@@ -12,7 +12,7 @@ impl Slots {
     // Head in phase 3; the store is in the list and not the current one. It becomes current, changed is set, phase 2.
     pub(crate) fn timeout(self) -> Tried
         requires { ⌜ self .store < 8 ⌝ }
-        ensures { λ r. ⌜ ((m : Machine) (a p : ℕ) → Stands m (Timeout a p) self → ruleOf m (Timeout a p) ≡ outcome m (Timeout a p) r) ⌝ }
+        ensures { λ r. ⌜ ((m : State) (a p : ℕ) → Stands m (Timeout a p) self → ruleOf m (Timeout a p) ≡ outcome m (Timeout a p) r) ⌝ }
     {
         let q = self.queue;
         if q.len == 0 {

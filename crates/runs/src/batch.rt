@@ -1,17 +1,16 @@
 // Some steps of a book at a time, so that the run keeps the machine in place: the steps are read, and their answers written
 // and counted.
-use super::Read;
 use super::reader;
-use rules::Step;
+use protocol::Read;
+use protocol::Step;
 ghost use mathlib.Core.Path.{_≡_};
 ghost use mathlib.Core.List.{_++_};
 ghost use Prim.Native.Nat.{ℕ, _+_, _≤_, _<_};
 ghost use lib.Dec.{eqb};
-ghost use lib.ListN.{length, set, take};
-ghost use lib.Seq.{sets};
-ghost use Rattle.machine.specs.Words.{one, times};
-ghost use Rattle.runs.specs.Book.{readStep, stepsFrom};
-ghost use Rattle.runs.specs.declared.Read.the-variants.{Bad};
+ghost use lib.ListN.{drop, length, take};
+ghost use Rattle.protocol.specs.Words.{one, times};
+ghost use Rattle.protocol.specs.Book.{readStep, stepsFrom};
+ghost use Rattle.protocol.specs.declared.Read.the-variants.{Bad};
 
 // How many steps stand at a place, and the place behind them.
 pub(crate) struct Reached {
@@ -21,12 +20,12 @@ pub(crate) struct Reached {
 
 // How many steps are read at a time, where n are left.
 pub(crate) fn wanted(n: u16) -> usize
-    ensures { λ r. ⌜ (r ≤ n) × (r ≤ 64) × (0 < n → 0 < r) ⌝ }
+    ensures { λ r. ⌜ (r ≤ n) × (r ≤ 16) × (0 < n → 0 < r) ⌝ }
 {
-    if n < 64 {
+    if n < 16 {
         return n as usize;
     }
-    64
+    16
 }
 
 // n steps, or as many as stand there. Counted before they are read, as a struct can't hold an array of them.
@@ -53,12 +52,12 @@ pub(crate) fn reach(s: &[u8], from: usize, n: usize) -> Reached
 }
 
 // The first n steps at a place. What stands in the array behind them is never taken.
-pub(crate) fn load(s: &[u8], from: usize, n: usize) -> [Step; 64]
-    requires { ⌜ n ≤ 64 ⌝ }
+pub(crate) fn load(s: &[u8], from: usize, n: usize) -> [Step; 16]
+    requires { ⌜ n ≤ 16 ⌝ }
     ensures { λ r. ⌜ take (length (stepsFrom (now (s .entry)) n from)) r ≡ stepsFrom (now (s .entry)) n from ⌝ }
 {
     let none = Step::Crash { store: 0 };
-    let mut steps = [none; 64];
+    let mut steps = [none; 16];
     let mut at = from;
     let mut i: usize = 0;
     while i < n {
@@ -76,26 +75,6 @@ pub(crate) fn load(s: &[u8], from: usize, n: usize) -> [Step; 64]
     steps
 }
 
-// Writes an answer at its own index, and nothing else.
-fn put(answers: &mut [u8], i: usize, answer: u8)
-    requires { ⌜ i < length (now answers) ⌝ }
-    ensures { λ r. ⌜ now (answers .exit) ≡ set (now (answers .entry)) i answer ⌝ }
-{
-    answers[i] = answer;
-}
-
-// Writes the first n answers from i on.
-pub(crate) fn put_all(answers: &mut [u8], i: usize, given: [u8; 64], n: usize)
-    requires { ⌜ (n ≤ 64) × (i + n ≤ length (now answers)) ⌝ }
-    ensures { λ r. ⌜ now (answers .exit) ≡ sets (now (answers .entry)) i (take n given) ⌝ }
-{
-    let mut j: usize = 0;
-    while j < n {
-        put(answers, i + j, given[j]);
-        j += 1;
-    }
-}
-
 // What an answer adds to the count of steps taken.
 fn one_taken(answer: u8) -> u16
     ensures { λ r. ⌜ r ≡ one (eqb answer 0) ⌝ }
@@ -103,16 +82,16 @@ fn one_taken(answer: u8) -> u16
     if answer == 0 { 1 } else { 0 }
 }
 
-// How many of the first n answers are those of steps taken.
-pub(crate) fn taken(given: [u8; 64], n: usize) -> u16
-    requires { ⌜ n ≤ 64 ⌝ }
-    ensures same { λ r. ⌜ r ≡ times 0 (take n given) ⌝ }
+// How many of the n answers from a place on are those of steps taken.
+pub(crate) fn taken(answers: &[u8], from: usize, n: usize) -> u16
+    requires { ⌜ (n ≤ 16) × (from + n ≤ length (now answers)) ⌝ }
+    ensures same { λ r. ⌜ r ≡ times 0 (take n (drop from (now (answers .entry)))) ⌝ }
     ensures low { λ r. ⌜ r ≤ n ⌝ }
 {
     let mut count: u16 = 0;
     let mut j: usize = 0;
     while j < n {
-        count += one_taken(given[j]);
+        count += one_taken(answers[from + j]);
         j += 1;
     }
     count

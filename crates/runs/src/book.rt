@@ -1,11 +1,11 @@
 // What stands at a place of a book: a byte, or a step. Only the reader asks here; all else asks the reader.
 
-use super::Read;
-use rules::Step;
+use protocol::Read;
+use protocol::Step;
 ghost use mathlib.Core.Path.{_≡_};
 ghost use Prim.Native.Nat.{_+_, _*_, _^_, _<_};
 ghost use lib.ListN.{length};
-ghost use Rattle.runs.specs.Book.{byte, low16, low32, widthOf, repairMade, shortMade, stepMade, readKind, readStep};
+ghost use Rattle.protocol.specs.Book.{byte, low16, low32, widthOf, repairMade, shortMade, stepMade, readKind, readStep};
 
 // By kind, how many bytes its fields take.
 const WIDTHS: [usize; 17] = [0, 9, 1, 1, 1, 2, 3, 3, 1, 2, 2, 3, 3, 2, 4, 1, 1];

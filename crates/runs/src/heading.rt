@@ -1,14 +1,14 @@
 // What stands before the steps of a book, and whether the whole is well formed: read through the reader alone.
 
-use super::Read;
 use super::book::joined;
 use super::reader;
-use machine::Setup;
+use protocol::Read;
+use protocol::Setup;
 ghost use mathlib.Core.Path.{_≡_};
 ghost use Prim.Native.Nat.{_+_, _*_, _<_};
 ghost use lib.Dec.{ltb};
-ghost use Rattle.machine.specs.Words.{pick, table};
-ghost use Rattle.runs.specs.Book.{byte, validFrom, actorsRead, startOf, countOf, wellFormed, setupRead};
+ghost use Rattle.protocol.specs.Words.{pick, table};
+ghost use Rattle.protocol.specs.Book.{byte, validFrom, actorsRead, startOf, countOf, wellFormed, setupRead};
 
 // Whether n steps stand from here to the end.
 fn valid_from(s: &[u8], n: u16, from: usize) -> bool

@@ -1,10 +1,10 @@
 // The book is read where it stands in the caller's bytes and never copied: a reader holds its slice and a place in it. A run has
 // no other way to the book's bytes than `byte_at` and `step_at`.
 
-use super::Read;
 use super::book;
+use protocol::Read;
 ghost use mathlib.Core.Path.{_≡_};
-ghost use Rattle.runs.specs.Book.{byte, readStep};
+ghost use Rattle.protocol.specs.Book.{byte, readStep};
 
 pub(crate) struct Reader<'a> {
     pub book: &'a [u8],

@@ -9,14 +9,14 @@ use lib.Dec.{leb, ltb, eqb}
 use lib.ListN.{length, take, drop}
 use lib.Seq.{take-at}
 use borrow.Author.Tests.{leb-true, le-ltb, eqb-true}
-use Rattle.machine.specs.Words.{pick}
-use Rattle.machine.proofs.Laws.Tests.{by-test}
-use Rattle.machine.specs.declared.Machine.{Machine}
-use Rattle.rules.specs.declared.Step.{Step}
-use Rattle.runs.specs.declared.Ran.{Ran}
-use Rattle.runs.specs.Book.{wellFormed, setupRead, startOf, countOf, validFrom}
-use Rattle.runs.specs.Run.{answers, stepsRead, legalSetup, freshOf, bookNo, refusedRun, fullRun, runOf, filled, bufferOf}
-use Rattle.runs.proofs.Formed.{Accepted, accepted, count-steps, answers-length}
+use Rattle.protocol.specs.Words.{pick}
+use Rattle.unbroken.proofs.Laws.Tests.{by-test}
+use Rattle.protocol.specs.declared.State.{State}
+use Rattle.protocol.specs.declared.Step.{Step}
+use Rattle.protocol.specs.declared.Ran.{Ran}
+use Rattle.protocol.specs.Book.{wellFormed, setupRead, startOf, countOf, validFrom}
+use Rattle.protocol.specs.Run.{answers, stepsRead, legalSetup, freshOf, bookNo, refusedRun, fullRun, runOf, filled, bufferOf}
+use Rattle.reads.proofs.Formed.{Accepted, accepted, count-steps, answers-length}
 use Rattle.tautlichen.specs.Lent.{first, over}
 use Rattle.tautlichen.specs.Calls.{history}
 
@@ -63,7 +63,7 @@ module _ (s : List ℕ) (room : ℕ) (done : runOf s room .answer ≡ 0) where
   steps-fit = simp whole-fits (steps-few s (book-fits .formed), book-fits .fits)
 
 -- The answers of all steps, copied from a buffer that has room for them, are those of a run into the other buffer.
-filled-over : (m : Machine) (steps : List Step) (a b : List ℕ) → over (take (length steps) (filled m steps b)) a ≡ filled m steps a
+filled-over : (m : State) (steps : List Step) (a b : List ℕ) → over (take (length steps) (filled m steps b)) a ≡ filled m steps a
 unfolding filled over
 filled-over m steps a b =
     simp (take-at (answers m steps) (drop (length steps) b) (length steps) (answers-length m steps), answers-length m steps)

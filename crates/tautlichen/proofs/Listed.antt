@@ -5,9 +5,9 @@ use mathlib.Core.List.{List}
 use lib.Dec.{ltb}
 use lib.ListN.{length, take, replicate}
 use borrow.Author.Tests.{ne-eqb}
-use Rattle.machine.specs.Words.{pick}
-use Rattle.runs.specs.declared.Ran.{Ran}
-use Rattle.runs.specs.Run.{runOf, bufferOf}
+use Rattle.protocol.specs.Words.{pick}
+use Rattle.protocol.specs.declared.Ran.{Ran}
+use Rattle.protocol.specs.Run.{runOf, bufferOf}
 use Rattle.tautlichen.specs.Lent.{first, shortNo, over}
 use Rattle.tautlichen.specs.Calls.{ranListing, listText, listNo, history}
 use Rattle.tautlichen.proofs.History.{run-number, same-run, steps-fit, same-answers}

@@ -4,13 +4,13 @@ use Prim.Native.Nat.{ℕ}
 use mathlib.Core.Path.{_≡_, sym, ap, _∙_}
 use mathlib.Core.List.{List}
 use borrow.Author.Tests.{ne-eqb}
-use Rattle.runs.specs.declared.Ran.{Ran}
-use Rattle.runs.specs.declared.Drained.{Drained}
-use Rattle.runs.specs.Drain.{drainOf}
-use Rattle.walk.specs.declared.Walked.{Walked}
-use Rattle.walk.specs.Walk.{walkOf}
+use Rattle.protocol.specs.declared.Ran.{Ran}
+use Rattle.protocol.specs.declared.Drained.{Drained}
+use Rattle.protocol.specs.Drain.{drainOf}
+use Rattle.protocol.specs.declared.Walked.{Walked}
+use Rattle.protocol.specs.Walk.{walkOf}
 use Rattle.reaches.specs.Reaches.{keysOf}
-use Rattle.listing.specs.Listing.{listingOf}
+use Rattle.protocol.specs.Listing.{listingOf}
 use Rattle.tautlichen.specs.Lent.{first, shortNo}
 use Rattle.tautlichen.specs.Calls.{history, drainAfter, drainText, drainNo, walkAfter, walkNo}
 
@@ -39,31 +39,31 @@ module _ {s : List ℕ} {r : Ran} (p : Past s r) where
 -- and the drain after it
 pub record Drains (s : List ℕ) (r : Ran) (d : Drained) : Type 0 where
   pub past : Past s r
-  pub drain : d ≡ drainOf (r .machine)
+  pub drain : d ≡ drainOf (r .state)
 
 module _ {s : List ℕ} {r : Ran} {d : Drained} (p : Drains s r d) where
   pub drained : d ≡ drainAfter s
-  drained = p .drain ∙ ap (λ (x : Ran). drainOf (x .machine)) (p .past .run)
+  drained = p .drain ∙ ap (λ (x : Ran). drainOf (x .state)) (p .past .run)
 
-  pub drain-text : listingOf (d .machine) (r .steps) (r .taken) ≡ drainText s
+  pub drain-text : listingOf (d .state) (r .steps) (r .taken) ≡ drainText s
   drain-text = simp (drained, p .past .run)
 
   pub drain-refused : (text : List ℕ) → r .answer ≡ 0 → (d .answer ≡ 0 → ⊥) → d .answer ≡ drainNo s text
   unfolding drainNo
   drain-refused text z h = second-of _ (sym (number (p .past)) ∙ z) (ap (λ (x : Drained). x .answer) drained) h
 
-  pub drain-shown : (text : List ℕ) {n : ℕ} → r .answer ≡ 0 → d .answer ≡ 0 → n ≡ shortNo (listingOf (d .machine) (r .steps) (r .taken)) text → n ≡ drainNo s text
+  pub drain-shown : (text : List ℕ) {n : ℕ} → r .answer ≡ 0 → d .answer ≡ 0 → n ≡ shortNo (listingOf (d .state) (r .steps) (r .taken)) text → n ≡ drainNo s text
   unfolding drainNo
   drain-shown text z y q = third-of (sym (number (p .past)) ∙ z) (sym (ap (λ (x : Drained). x .answer) drained) ∙ y) (rw drain-text at q)
 
 -- and the walk of a key after it
 pub record Walks (s : List ℕ) (key : ℕ) (r : Ran) (w : Walked) : Type 0 where
   pub past : Past s r
-  pub walk : w ≡ walkOf (r .machine) key
+  pub walk : w ≡ walkOf (r .state) key
 
 module _ {s : List ℕ} {key : ℕ} {r : Ran} {w : Walked} (p : Walks s key r w) where
   pub walked : w ≡ walkAfter s key
-  walked = p .walk ∙ ap (λ (x : Ran). walkOf (x .machine) key) (p .past .run)
+  walked = p .walk ∙ ap (λ (x : Ran). walkOf (x .state) key) (p .past .run)
 
   pub walk-refused : (keys : List ℕ) → r .answer ≡ 0 → (w .answer ≡ 0 → ⊥) → w .answer ≡ walkNo s key keys
   unfolding walkNo

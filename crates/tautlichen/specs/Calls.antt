@@ -3,19 +3,19 @@
 use Prim.Native.Nat.{ℕ}
 use mathlib.Core.List.{List}
 use lib.ListN.{length}
-use Rattle.runs.specs.declared.Ran.{Ran}
-use Rattle.runs.specs.declared.Drained.{Drained}
-use Rattle.runs.specs.Run.{runOf}
-use Rattle.runs.specs.Drain.{drainOf}
-use Rattle.walk.specs.declared.Walked.{Walked}
-use Rattle.walk.specs.Walk.{walkOf}
+use Rattle.protocol.specs.declared.Ran.{Ran}
+use Rattle.protocol.specs.declared.Drained.{Drained}
+use Rattle.protocol.specs.Run.{runOf}
+use Rattle.protocol.specs.Drain.{drainOf}
+use Rattle.protocol.specs.declared.Walked.{Walked}
+use Rattle.protocol.specs.Walk.{walkOf}
 use Rattle.reaches.specs.Reaches.{keysOf}
-use Rattle.listing.specs.Listing.{listingOf}
+use Rattle.protocol.specs.Listing.{listingOf}
 use Rattle.tautlichen.specs.Lent.{first, shortNo}
 
 -- the listing of a run
 abbrev pub ranListing : Ran → List ℕ
-ranListing r = listingOf (r .machine) (r .steps) (r .taken)
+ranListing r = listingOf (r .state) (r .steps) (r .taken)
 
 -- The run with its listing: the run's own refusals first, then 14.
 abbrev pub listText : List ℕ → List ℕ → List ℕ
@@ -30,17 +30,17 @@ history book = runOf book 4096
 
 -- The drain after a book, and the listing after it, with the steps of the book: the run's refusals, the drain's, then 14.
 abbrev pub drainAfter : List ℕ → Drained
-drainAfter book = drainOf (history book .machine)
+drainAfter book = drainOf (history book .state)
 
 abbrev pub drainText : List ℕ → List ℕ
-drainText book = listingOf (drainAfter book .machine) (history book .steps) (history book .taken)
+drainText book = listingOf (drainAfter book .state) (history book .steps) (history book .taken)
 
 unfoldable pub drainNo : List ℕ → List ℕ → ℕ
 drainNo book text = first (history book .answer) (first (drainAfter book .answer) (shortNo (drainText book) text))
 
 -- The walk of a key after a book: the run's refusals, the walk's, then 14.
 abbrev pub walkAfter : List ℕ → ℕ → Walked
-walkAfter book key = walkOf (history book .machine) key
+walkAfter book key = walkOf (history book .state) key
 
 unfoldable pub walkNo : List ℕ → ℕ → List ℕ → ℕ
 walkNo book key keys = first (history book .answer) (first (walkAfter book key .answer) (shortNo (keysOf (walkAfter book key)) keys))

@@ -3,7 +3,7 @@ use Prim.Native.Nat.{ℕ}
 use mathlib.Core.Path.{_≡_}
 use mathlib.Core.List.{List}
 use lib.ListN.{length}
-use Rattle.runs.specs.Run.{runOf, bufferOf}
+use Rattle.protocol.specs.Run.{runOf, bufferOf}
 use Rattle.reaches.specs.Reaches.{keysOf}
 use Rattle.tautlichen.specs.Lent.{lent, over}
 use Rattle.tautlichen.specs.Calls.{listText, listNo, drainAfter, drainText, drainNo, walkAfter, walkNo}

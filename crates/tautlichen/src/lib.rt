@@ -1,15 +1,15 @@
 // The recorder as a library for callers in C, C++ and Rust: functions on numbers and byte slices. Each call is a function
 // of a book as the machine's history, answers document 01's number, and writes nothing where it refuses.
-use machine::Machine;
-use runs::Ran;
+use protocol::Ran;
+use protocol::State;
 ghost use mathlib.Core.Path.{_≡_};
 ghost use Prim.Native.Nat.{_≤_};
 ghost use lib.ListN.{length, take};
 ghost use lib.Dec.{ltb};
-ghost use Rattle.machine.specs.Words.{pick};
-ghost use Rattle.runs.specs.Run.{runOf, bufferOf};
+ghost use Rattle.protocol.specs.Words.{pick};
+ghost use Rattle.protocol.specs.Run.{runOf, bufferOf};
 ghost use Rattle.reaches.specs.Reaches.{keysOf};
-ghost use Rattle.listing.specs.Listing.{listingOf};
+ghost use Rattle.protocol.specs.Listing.{listingOf};
 ghost use Rattle.tautlichen.specs.Lent.{first, lent, shortNo, over};
 ghost use Rattle.tautlichen.specs.Calls.{listText, listNo, history, drainAfter, drainText, drainNo, walkAfter, walkNo};
 
@@ -39,7 +39,7 @@ fn put(to: &mut [u8], from: &[u8], n: usize) -> u8
 }
 
 // Writes the listing of a machine after so many steps, of which so many were taken, and its length.
-fn show(m: Machine, steps: u16, taken: u16, text: &mut [u8], len: &mut u16) -> u8
+fn show(m: State, steps: u16, taken: u16, text: &mut [u8], len: &mut u16) -> u8
     ensures number { λ r. ⌜ r ≡ shortNo (listingOf m steps taken) (now (text .entry)) ⌝ }
     ensures text { λ r. ⌜ now (text .exit) ≡ lent r (over (listingOf m steps taken) (now (text .entry))) (now (text .entry)) ⌝ }
     ensures len { λ r. ⌜ now (len .exit) ≡ lent r (length (listingOf m steps taken)) (now (len .entry)) ⌝ }
@@ -106,7 +106,7 @@ pub extern "C" fn tautlichen_list(
     if no != 0 {
         return no;
     }
-    let m = ran.machine;
+    let m = ran.state;
     let no = show(m, ran.steps, ran.taken, text, len);
     if no != 0 {
         return no;
@@ -133,12 +133,12 @@ pub extern "C" fn tautlichen_drain(
     if ran.answer != 0 {
         return ran.answer;
     }
-    let m = ran.machine;
-    let drained = runs::drain(m);
+    let m = ran.state;
+    let drained = drain::drain(m);
     if drained.answer != 0 {
         return drained.answer;
     }
-    let rested = drained.machine;
+    let rested = drained.state;
     let no = show(rested, ran.steps, ran.taken, text, len);
     if no != 0 {
         return no;
@@ -158,7 +158,7 @@ pub extern "C" fn tautlichen_walk(book: &[u8], key: u8, keys: &mut [u8], count: 
     if ran.answer != 0 {
         return ran.answer;
     }
-    let m = ran.machine;
+    let m = ran.state;
     let walked = walk::walk(m, key);
     if walked.answer != 0 {
         return walked.answer;

@@ -6,8 +6,8 @@ use native.Mathlib.Omega.{arith}
 use native.Mathlib.Decide.{decLt}
 use lib.ListN.{length, getD, set, length-set, replicate, length-replicate}
 use lib.Seq.{getD-set-same, getD-set-other}
-use Rattle.machine.specs.Slots.{noLinks}
-use Rattle.machine.specs.declared.Links.{Links}
+use Rattle.protocol.specs.Slots.{noLinks}
+use Rattle.protocol.specs.declared.Links.{Links}
 use Rattle.walk.specs.Past.{Laid, LaidOut}
 
 pub lay-start : (at : ℕ) (links before : List ℕ) → Laid 0 at links before before

@@ -4,68 +4,55 @@ ghost use mathlib.Core.Path.{_≡_};
 ghost use mathlib.Core.Bool.{true, false, _&&_};
 ghost use lib.ListN.{length};
 ghost use Prim.Native.Nat.{ℕ, _+_, _<_, _≤_};
-ghost use Rattle.machine.specs.Words.{bit, table};
-ghost use Rattle.machine.specs.Broken.{brokenOf};
-ghost use Rattle.walk.specs.Walk.{added, spoiled, causesHeld, hopOf, each, visitOf, refusedWalk, answerOf, walkOf};
-ghost use Rattle.walk.specs.Past.{restsIn, closedIn, heldIn, causesIn, Laid, LaidOut, Past, foundIn, receiptIn, hopIn};
-ghost use Rattle.walk.specs.Tally.{Tally};
-use machine::Contents;
-use machine::Entry;
-use machine::Links;
-use machine::Machine;
-use machine::Repair;
-use machine::View;
-use machine::status_number;
+ghost use Rattle.protocol.specs.Words.{bit, table};
+ghost use Rattle.protocol.specs.Broken.{brokenOf};
+ghost use Rattle.protocol.specs.Walk.{added, spoiled, causesHeld, hopOf, each, visitOf, refusedWalk, answerOf, walkOf};
+ghost use Rattle.walk.specs.Past.{restsIn, closedIn, heldIn, causesIn, viewlinkIn, Laid, LaidOut, Past, foundIn, receiptIn, hopIn};
+ghost use Rattle.reaches.specs.Tally.{Tally};
+use broken::is_broken;
+use protocol::Contents;
+use protocol::Entry;
+use protocol::Links;
+use protocol::Met;
+use protocol::Repair;
+use protocol::State;
+use protocol::Store;
+use protocol::View;
+use protocol::Walked;
+use protocol::status_number;
 
-// The keys met so far, in the order first met; fine until one isn't closed or an entry or link is missing.
-pub struct Met {
-    pub fine: bool,
-    pub met: [bool; 16],
-    pub keys: [u8; 16],
-    pub count: u8,
+fn add(w: Met, k: usize) -> Met
+    requires { ⌜ (k < 16) × (w .count < 16) ⌝ }
+    ensures { λ r. ⌜ r ≡ added w k ⌝ }
+{
+    let mut w = w;
+    let at = w.count as usize;
+    w.met[k] = true;
+    w.keys[at] = k as u8;
+    w.count += 1;
+    w
 }
 
-// What a walk answers: no keys where it is refused.
-pub struct Walked {
-    pub answer: u8,
-    pub keys: [u8; 16],
-    pub count: u8,
+fn spoil(w: Met) -> Met
+    ensures { λ r. ⌜ r ≡ spoiled w ⌝ }
+{
+    let mut w = w;
+    w.fine = false;
+    w
 }
 
-impl Met {
-    fn add(self, k: usize) -> Met
-        requires { ⌜ (k < 16) × (self .count < 16) ⌝ }
-        ensures { λ r. ⌜ r ≡ added self k ⌝ }
-    {
-        let mut w = self;
-        let at = w.count as usize;
-        w.met[k] = true;
-        w.keys[at] = k as u8;
-        w.count += 1;
-        w
+fn answer(w: Met) -> Walked
+    ensures { λ r. ⌜ r ≡ answerOf w ⌝ }
+{
+    if w.fine {
+        let keys = w.keys;
+        return Walked {
+            answer: 0,
+            keys,
+            count: w.count,
+        };
     }
-
-    fn spoil(self) -> Met
-        ensures { λ r. ⌜ r ≡ spoiled self ⌝ }
-    {
-        let mut w = self;
-        w.fine = false;
-        w
-    }
-
-    fn answer(self) -> Walked
-        ensures { λ r. ⌜ r ≡ answerOf self ⌝ }
-    {
-        if self.fine {
-            let keys = self.keys;
-            return Walked {
-                answer: 0,
-                keys,
-                count: self.count,
-            };
-        }
-        refused(13)
-    }
+    refused(13)
 }
 
 fn refused(answer: u8) -> Walked
@@ -173,6 +160,20 @@ fn all_causes(contents: [Contents; 256]) -> [u16; 256]
     causes
 }
 
+// The viewlinks, by place.
+fn all_viewlinks(shelves: [Store; 8]) -> [u8; 256]
+    ensures { λ r. ⌜ r ≡ table (viewlinkIn shelves) 256 ⌝ }
+{
+    let mut out = [0u8; 256];
+    let mut i: usize = 0;
+    while i < 256 {
+        let s = shelves[i / 32];
+        out[i] = s.viewlinks[i % 32];
+        i += 1;
+    }
+    out
+}
+
 // The sixteen cause links of a sender, laid from `at`.
 fn lay(out: &mut [u8; 2048], at: usize, links: Links)
     requires { ⌜ (at + 16 ≤ 2048) × (length (now out) ≡ 2048) ⌝ }
@@ -262,7 +263,7 @@ fn visit<'a>(
 ) -> Met
     requires { ⌜ (k < 16) × Tally w ⌝ }
     ensures tally { λ r. ⌜ Tally r ⌝ }
-    ensures same { λ r. ⌜ ((m : Machine) → Past m (now (closed .entry)) (now (held .entry)) (now (sets .entry)) (now (links .entry)) (now (viewlinks .entry)) → (depth : ℕ) → k < depth → r ≡ visitOf depth m k link w) ⌝ }
+    ensures same { λ r. ⌜ ((m : State) → Past m (now (closed .entry)) (now (held .entry)) (now (sets .entry)) (now (links .entry)) (now (viewlinks .entry)) → (depth : ℕ) → k < depth → r ≡ visitOf depth m k link w) ⌝ }
 {
     if !w.fine {
         return w;
@@ -271,9 +272,9 @@ fn visit<'a>(
         return w;
     }
     if found(closed, held, k, link) {
-        return causes(w.add(k), closed, held, sets, links, viewlinks, k, link);
+        return causes(add(w, k), closed, held, sets, links, viewlinks, k, link);
     }
-    w.spoil()
+    spoil(w)
 }
 
 fn causes<'a>(
@@ -288,7 +289,7 @@ fn causes<'a>(
 ) -> Met
     requires { ⌜ (k < 16) × (1 ≤ link) × (link ≤ 8) × Tally w ⌝ }
     ensures tally { λ r. ⌜ Tally r ⌝ }
-    ensures same { λ r. ⌜ ((m : Machine) → Past m (now (closed .entry)) (now (held .entry)) (now (sets .entry)) (now (links .entry)) (now (viewlinks .entry)) → (depth : ℕ) → k ≤ depth → r ≡ each (λ j. visitOf depth m j (hopOf m k link j)) (causesHeld m k link) k 0 w) ⌝ }
+    ensures same { λ r. ⌜ ((m : State) → Past m (now (closed .entry)) (now (held .entry)) (now (sets .entry)) (now (links .entry)) (now (viewlinks .entry)) → (depth : ℕ) → k ≤ depth → r ≡ each (λ j. visitOf depth m j (hopOf m k link j)) (causesHeld m k link) k 0 w) ⌝ }
 {
     let set = sets[(link - 1) * 32 + k * 2];
     let mut out = w;
@@ -306,7 +307,7 @@ fn causes<'a>(
 }
 
 // The walk of a machine that is not broken.
-fn walk_unbroken(m: Machine, key: u8) -> Walked
+fn walk_unbroken(m: State, key: u8) -> Walked
     requires { ⌜ brokenOf m ≡ false ⌝ }
     ensures { λ r. ⌜ r ≡ walkOf m key ⌝ }
 {
@@ -326,28 +327,30 @@ fn walk_unbroken(m: Machine, key: u8) -> Walked
     let entries = m.entries;
     let contents = m.contents;
     let links = m.links;
+    let shelves = m.shelves;
     let closed = all_closed(views, repairs, entries);
     let held = all_held(contents);
     let sets = all_causes(contents);
     let laid = all_links(links);
+    let viewlinks = all_viewlinks(shelves);
     let walked = visit(
         unmet,
         &closed,
         &held,
         &sets,
         &laid,
-        &m.viewlinks,
+        &viewlinks,
         k,
         link(view.store),
     );
-    walked.answer()
+    answer(walked)
 }
 
 // The walk back from a key, for every machine value; the caller's machine is what it was.
-pub fn walk(m: Machine, key: u8) -> Walked
+pub fn walk(m: State, key: u8) -> Walked
     ensures { λ r. ⌜ r ≡ walkOf m key ⌝ }
 {
-    if m.broken() {
+    if is_broken(m) {
         return refused(1);
     }
     walk_unbroken(m, key)

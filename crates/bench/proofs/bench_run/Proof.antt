@@ -1,7 +1,7 @@
 -- Both are what the run told. Assumes nothing.
 use mathlib.Core.Path.{ap}
 use borrow.Author.Needs.{needs}
-use Rattle.runs.specs.declared.Ran.{Ran}
+use Rattle.protocol.specs.declared.Ran.{Ran}
 use Rattle.bench.proofs.bench_run.Statement.{statement}
 use Rattle.bench.proofs.bench_run.Tie as tie
 

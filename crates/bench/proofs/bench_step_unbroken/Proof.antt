@@ -7,27 +7,27 @@ use Rattle.bench.proofs.bench_step_unbroken.Tie as tie
 after-requires : tie.Need-after-requires
 after-requires c κs = search needs
 
-broken-requires : tie.Need-broken-requires
-broken-requires c κs = search needs
+is-broken-requires : tie.Need-is-broken-requires
+is-broken-requires c κs = search needs
 
 returns : tie.Need-returns
-returns c = simp (← c .before .before .after .ensures, ← c .before .broken .ensures, c .if1 .taken)
+returns c = simp (← c .before .before .after .ensures, ← c .before .is-broken .ensures, c .if1 .taken)
 
 step-requires : tie.Need-step-requires
 step-requires c κs = search needs
 
 unbroken-turns-requires : tie.Need-unbroken-turns-requires
-unbroken-turns-requires c κs = sym (c .before .before .broken .ensures) ∙ c .before .if1 .left
+unbroken-turns-requires c κs = sym (c .before .before .is-broken .ensures) ∙ c .before .if1 .left
 
 returns-2 : tie.Need-returns-2
-returns-2 c = simp (c .unbroken-turns .ensures, c .before .step .ensures, ← c .before .before .before .before .after .ensures, ← c .before .before .before .broken .ensures, c .before .before .if1 .left)
+returns-2 c = simp (c .unbroken-turns .ensures, c .before .step .ensures, ← c .before .before .before .before .after .ensures, ← c .before .before .before .is-broken .ensures, c .before .before .if1 .left)
 
 pub bench-step-unbroken-spec : {M : Type 1} → statement M
 bench-step-unbroken-spec =
     tie.close
     (tie.spec
     after-requires
-    broken-requires
+    is-broken-requires
     returns
     step-requires
     unbroken-turns-requires

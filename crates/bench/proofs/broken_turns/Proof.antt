@@ -2,7 +2,7 @@
 use mathlib.Core.Path.{ap, _∙_}
 use native.Mathlib.Omega.{arith}
 use borrow.Author.Needs.{needs}
-use Rattle.machine.specs.Words.{one}
+use Rattle.protocol.specs.Words.{one}
 use Rattle.bench.specs.Turns.{turn, summed, brokenTold}
 use Rattle.bench.proofs.Turning.{Turning, turns-start, turn-made, turns-end, turn-told}
 use Rattle.bench.proofs.broken_turns.Statement.{statement}
@@ -23,8 +23,8 @@ acks-requires c κs = search needs
 element-write-m : tie.Need-element-write-m Inv-loop μ-loop
 element-write-m c = search needs
 
-broken-requires : tie.Need-broken-requires Inv-loop μ-loop
-broken-requires c κs = search needs
+is-broken-requires : tie.Need-is-broken-requires Inv-loop μ-loop
+is-broken-requires c κs = search needs
 
 number-requires : tie.Need-number-requires Inv-loop μ-loop
 number-requires c κs = search needs
@@ -45,7 +45,7 @@ loop-again c =
     let sum = at-loop .loop .sum in
     turn-made (at-loop .loop .inv) (c .before .before .before .before .loop-test .taken)
     (turn-told brokenTold (at-loop .loop .m) (args .at) (at-loop .loop .left) sum (c .before .before .before .acks .ensures)
-    (c .wrapping-add-u32 .ensures ∙ ap (summed sum) (c .before .number .ensures ∙ ap one (c .before .before .broken .ensures))))
+    (c .wrapping-add-u32 .ensures ∙ ap (summed sum) (c .before .number .ensures ∙ ap one (c .before .before .is-broken .ensures))))
 
 returns : tie.Need-returns Inv-loop μ-loop
 returns c = ap (λ x. x .1) (turns-end (c .before .loop .inv) (c .loop-test .left))
@@ -59,7 +59,7 @@ broken-turns-spec =
     loop-holds
     acks-requires
     element-write-m
-    broken-requires
+    is-broken-requires
     number-requires
     wrapping-add-u32-requires
     sub-left

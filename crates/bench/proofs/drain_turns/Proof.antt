@@ -3,7 +3,7 @@ use Prim.Native.Nat.{_+_}
 use mathlib.Core.Path.{ap, _∙_}
 use native.Mathlib.Omega.{arith}
 use borrow.Author.Needs.{needs}
-use Rattle.runs.specs.declared.Drained.{Drained}
+use Rattle.protocol.specs.declared.Drained.{Drained}
 use Rattle.bench.specs.Turns.{turn, summed, drainTold}
 use Rattle.bench.proofs.Turning.{Turning, turns-start, turn-made, turns-end, turn-told}
 use Rattle.bench.proofs.drain_turns.Statement.{statement}
@@ -46,7 +46,7 @@ loop-again c =
     let sum = at-loop .loop .sum in
     turn-made (at-loop .loop .inv) (c .before .before .before .before .loop-test .taken)
     (turn-told drainTold (at-loop .loop .m) (args .at) (at-loop .loop .left) sum (c .before .before .before .acks .ensures)
-    (c .wrapping-add-u32 .ensures ∙ ap (summed sum) (c .before .told .ensures ∙ ap (λ (d : Drained). d .count + d .machine .made) (c .before .before .drain .ensures))))
+    (c .wrapping-add-u32 .ensures ∙ ap (summed sum) (c .before .told .ensures ∙ ap (λ (d : Drained). d .count + d .state .made) (c .before .before .drain .ensures))))
 
 returns : tie.Need-returns Inv-loop μ-loop
 returns c = ap (λ x. x .1) (turns-end (c .before .loop .inv) (c .loop-test .left))

@@ -49,7 +49,7 @@ loop-again c =
     let sum = at-loop .loop .sum in
     turn-made (at-loop .loop .inv) (c .before .before .before .before .before .loop-test .taken)
     (turn-told (stepTold (args .s)) (at-loop .loop .m) (args .at) (at-loop .loop .left) sum (c .before .before .before .before .acks .ensures)
-    (c .wrapping-add-u32 .ensures ∙ ap (summed sum) (c .before .told .ensures ∙ ap (λ (r : Answered). r .answer + r .machine .made) (c .before .before .before .step .ensures))))
+    (c .wrapping-add-u32 .ensures ∙ ap (summed sum) (c .before .told .ensures ∙ ap (λ (r : Answered). r .answer + r .machine .state .made) (c .before .before .before .step .ensures))))
 
 returns : tie.Need-returns Inv-loop μ-loop
 returns c = ap (λ x. x .1) (turns-end (c .before .loop .inv) (c .loop-test .left))

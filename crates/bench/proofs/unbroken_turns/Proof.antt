@@ -40,7 +40,7 @@ loop-again : tie.Need-loop-again Inv-loop μ-loop
 loop-again c =
     let at-loop = c .before .before .before .before .before in
     turn-made (at-loop .loop .inv) (c .before .before .before .before .loop-test .taken)
-    (c .wrapping-add-u32 .ensures ∙ ap (summed (at-loop .loop .sum)) (c .before .told .ensures ∙ ap (λ (r : Answered). r .answer + r .machine .made) (c .before .before .before .step-unbroken .ensures)))
+    (c .wrapping-add-u32 .ensures ∙ ap (summed (at-loop .loop .sum)) (c .before .told .ensures ∙ ap (λ (r : Answered). r .answer + r .machine .state .made) (c .before .before .before .step-unbroken .ensures)))
 
 returns : tie.Need-returns Inv-loop μ-loop
 returns c = turns-end (c .before .loop .inv) (c .loop-test .left)

@@ -2,7 +2,7 @@
 use mathlib.Core.Path.{ap, _∙_}
 use native.Mathlib.Omega.{arith}
 use borrow.Author.Needs.{needs}
-use Rattle.walk.specs.declared.Walked.{Walked}
+use Rattle.protocol.specs.declared.Walked.{Walked}
 use Rattle.bench.specs.Turns.{turn, summed, walkTold}
 use Rattle.bench.proofs.Turning.{Turning, turns-start, turn-made, turns-end, turn-told}
 use Rattle.bench.proofs.walk_turns.Statement.{statement}

@@ -1,6 +1,6 @@
 -- `listing::listing` meets its contract. Pieces written one after another are the whole line. Assumes nothing.
 use borrow.Author.Needs.{needs}
-use Rattle.listing.specs.Listing.{listingOf}
+use Rattle.protocol.specs.Listing.{listingOf}
 use Rattle.listing.proofs.Writing.{wrote-append}
 use Rattle.listing.proofs.listing.Statement.{statement}
 use Rattle.listing.proofs.listing.Tie as tie

@@ -1,6 +1,6 @@
 -- `listing::refused` meets its contract. Pieces written one after another are the whole line. Assumes nothing.
 use borrow.Author.Needs.{needs}
-use Rattle.listing.specs.Listing.{refusedLine}
+use Rattle.protocol.specs.Listing.{refusedLine}
 use Rattle.listing.proofs.Writing.{wrote-append}
 use Rattle.listing.proofs.refused.Statement.{statement}
 use Rattle.listing.proofs.refused.Tie as tie

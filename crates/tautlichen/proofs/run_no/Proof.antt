@@ -1,5 +1,5 @@
 -- `tautlichen::run_no` meets its contract: each return is what the tests before it pick. Assumes nothing.
-use Rattle.machine.proofs.Tests.{tests}
+use Rattle.unbroken.proofs.Tests.{tests}
 use Rattle.tautlichen.proofs.run_no.Statement.{statement}
 use Rattle.tautlichen.proofs.run_no.Tie as tie
 

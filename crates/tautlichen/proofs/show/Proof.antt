@@ -4,7 +4,7 @@ use native.Mathlib.Omega.{arith}
 use lib.ListN.{length-map}
 use borrow.Author.Needs.{needs}
 use borrow.Author.Tests.{ne-eqb}
-use Rattle.listing.specs.Listing.{listingOf}
+use Rattle.protocol.specs.Listing.{listingOf}
 use Rattle.tautlichen.proofs.Showing.{Shows, listing-shows}
 use Rattle.tautlichen.proofs.show.Statement.{statement}
 use Rattle.tautlichen.proofs.show.Tie as tie

@@ -3,7 +3,7 @@
 use mathlib.Core.Path.{sym, ap, _∙_}
 use borrow.Author.Needs.{needs}
 use borrow.Author.Tests.{ne-eqb}
-use Rattle.runs.specs.declared.Drained.{Drained}
+use Rattle.protocol.specs.declared.Drained.{Drained}
 use Rattle.tautlichen.proofs.Refusing.{Past, Drains, drain-unrun, drained, drain-text, drain-refused, drain-shown}
 use Rattle.tautlichen.proofs.tautlichen_drain.Statement.{statement}
 use Rattle.tautlichen.proofs.tautlichen_drain.Tie as tie

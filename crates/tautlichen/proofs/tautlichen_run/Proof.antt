@@ -1,7 +1,7 @@
 -- `tautlichen::tautlichen_run` meets its contract: it hands on what the run answers. Assumes nothing.
 use mathlib.Core.Path.{ap}
 use borrow.Author.Needs.{needs}
-use Rattle.runs.specs.declared.Ran.{Ran}
+use Rattle.protocol.specs.declared.Ran.{Ran}
 use Rattle.tautlichen.proofs.tautlichen_run.Statement.{statement}
 use Rattle.tautlichen.proofs.tautlichen_run.Tie as tie
 

@@ -5,7 +5,7 @@ use native.Mathlib.Omega.{arith}
 use lib.ListN.{length-map}
 use borrow.Author.Needs.{needs}
 use borrow.Author.Tests.{ne-eqb}
-use Rattle.walk.specs.declared.Walked.{Walked}
+use Rattle.protocol.specs.declared.Walked.{Walked}
 use Rattle.reaches.proofs.Laws.{keys-few}
 use Rattle.tautlichen.proofs.Refusing.{Past, Walks, walk-unrun, walked, walk-refused, walk-shown}
 use Rattle.tautlichen.proofs.tautlichen_walk.Statement.{statement}

@@ -5,7 +5,7 @@ use borrow.Author.Needs.{needs}
 use borrow.Author.Tests.{not-true, not-false}
 use native.Mathlib.Omega.{arith}
 use mathlib.Core.Path.{sym, _∙_}
-use Rattle.walk.proofs.Counted.{room, tally-added}
+use Rattle.reaches.proofs.Counted.{room, tally-added}
 use Rattle.walk.proofs.Going.{Going, go-start, go-has, go-not, go-end, visit-spoiled, visit-met, visit-found, visit-missing}
 use Rattle.walk.specs.Past.{Past}
 use Rattle.walk.proofs.Taken.{found-same, hop-same, causes-same}
@@ -17,8 +17,8 @@ use Rattle.walk.proofs.+causes+visit.Lts-causes as causes-lts
 use Rattle.walk.proofs.visit.Reads as visit
 use Rattle.walk.proofs.visit.Kinds as visit-kinds
 use Rattle.walk.proofs.+causes+visit.Lts-visit as visit-lts
-use Rattle.walk.proofs.Met.add.Reads as add-reads
-use Rattle.walk.proofs.Met.spoil.Reads as spoil-reads
+use Rattle.walk.proofs.add.Reads as add-reads
+use Rattle.walk.proofs.spoil.Reads as spoil-reads
 use Rattle.walk.proofs.found.Reads as found-reads
 use Rattle.walk.proofs.has.Reads as has-reads
 use Rattle.walk.proofs.hop.Reads as hop-reads

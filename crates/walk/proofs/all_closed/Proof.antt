@@ -3,7 +3,7 @@ use Prim.Native.Nat.{_-_}
 use mathlib.Core.Path.{refl}
 use native.Mathlib.Nat.{add-zero}
 use native.Mathlib.Omega.{arith}
-use Rattle.machine.proofs.Fill.{Filled, fill-start, fill-step, fill-end}
+use Rattle.unbroken.proofs.Fill.{Filled, fill-start, fill-step, fill-end}
 use borrow.Author.Needs.{needs}
 use Rattle.walk.specs.Past.{closedIn}
 use Rattle.walk.proofs.all_closed.Statement.{statement}

@@ -1,7 +1,7 @@
 -- Each arm of kinds 1 to 8 is the step that the definition picks, since the tests before it fail. Assumes nothing.
 use borrow.Author.Needs.{needs}
 use borrow.Author.Tests.{ne-eqb}
-use Rattle.runs.specs.Book.{shortMade}
+use Rattle.protocol.specs.Book.{shortMade}
 use Rattle.bench.specs.Turns.{stepMade}
 use Rattle.bench.proofs.step.step.Statement.{statement}
 use Rattle.bench.proofs.step.step.Tie as tie

@@ -1,6 +1,6 @@
 -- `listing::Text::counts` meets its contract. Pieces written one after another are the whole line. Assumes nothing.
 use borrow.Author.Needs.{needs}
-use Rattle.listing.specs.Listing.{countsLine}
+use Rattle.protocol.specs.Listing.{countsLine}
 use Rattle.listing.proofs.Writing.{wrote-append}
 use Rattle.listing.proofs.Text.counts.Statement.{statement}
 use Rattle.listing.proofs.Text.counts.Tie as tie

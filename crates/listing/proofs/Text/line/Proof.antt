@@ -1,6 +1,6 @@
 -- `listing::Text::line` meets its contract. Pieces written one after another are the whole line. Assumes nothing.
 use borrow.Author.Needs.{needs}
-use Rattle.listing.specs.Listing.{lineOf}
+use Rattle.protocol.specs.Listing.{lineOf}
 use Rattle.listing.proofs.Writing.{wrote-append}
 use Rattle.listing.proofs.Text.line.Statement.{statement}
 use Rattle.listing.proofs.Text.line.Tie as tie

@@ -1,7 +1,7 @@
 -- `listing::Text::link` meets its contract. Each return is one case of the definition; pieces written one after another are the whole. Assumes nothing.
 use borrow.Author.Needs.{needs}
-use Rattle.listing.specs.Listing.{linkText}
-use Rattle.machine.proofs.Tests.{tests}
+use Rattle.protocol.specs.Listing.{linkText}
+use Rattle.unbroken.proofs.Tests.{tests}
 use Rattle.listing.proofs.Text.link.Statement.{statement}
 use Rattle.listing.proofs.Text.link.Tie as tie
 

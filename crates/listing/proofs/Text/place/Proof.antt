@@ -1,8 +1,8 @@
 -- `listing::Text::place` meets its contract. Each return is one case of the definition; pieces written one after another are the whole. Assumes nothing.
 use borrow.Author.Needs.{needs}
-use Rattle.listing.specs.Listing.{placeText}
+use Rattle.protocol.specs.Listing.{placeText}
 use Rattle.listing.proofs.Writing.{wrote-append}
-use Rattle.machine.proofs.Tests.{tests}
+use Rattle.unbroken.proofs.Tests.{tests}
 use Rattle.listing.proofs.Text.place.Statement.{statement}
 use Rattle.listing.proofs.Text.place.Tie as tie
 

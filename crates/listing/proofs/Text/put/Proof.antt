@@ -1,7 +1,7 @@
 -- `listing::Text::put` meets its contract. One byte more, where there is room. Assumes nothing.
 use borrow.Author.Needs.{needs}
 use Rattle.listing.specs.Text.{putOf}
-use Rattle.machine.proofs.Tests.{tests}
+use Rattle.unbroken.proofs.Tests.{tests}
 use Rattle.listing.proofs.Text.put.Statement.{statement}
 use Rattle.listing.proofs.Text.put.Tie as tie
 

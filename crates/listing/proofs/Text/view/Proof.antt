@@ -1,7 +1,7 @@
 -- `listing::Text::view` meets its contract. Each return is one case of the definition; pieces written one after another are the whole. Assumes nothing.
 use borrow.Author.Needs.{needs}
-use Rattle.listing.specs.Listing.{viewLine}
-use Rattle.machine.proofs.Tests.{tests}
+use Rattle.protocol.specs.Listing.{viewLine}
+use Rattle.unbroken.proofs.Tests.{tests}
 use Rattle.listing.proofs.Text.view.Statement.{statement}
 use Rattle.listing.proofs.Text.view.Tie as tie
 

@@ -1,6 +1,6 @@
 -- `look_back` meets its contract: both parts are what their functions promise. Assumes nothing.
 use borrow.Author.Needs.{needs}
-use Rattle.rules.specs.Send.{causesKnown}
+use Rattle.protocol.specs.Send.{causesKnown}
 use Rattle.rules.proofs.past.look_back.Statement.{statement}
 use Rattle.rules.proofs.past.look_back.Tie as tie
 

@@ -3,7 +3,7 @@ use Prim.Native.Nat.{_-_}
 use mathlib.Core.Path.{_≡_}
 use borrow.Author.Needs.{needs}
 use lib.ListN.{length}
-use Rattle.machine.specs.Words.{table}
+use Rattle.protocol.specs.Words.{table}
 use Rattle.rules.proofs.Shift.{shifted}
 use Rattle.rules.proofs.post_check.left.Statement.{statement}
 use Rattle.rules.proofs.post_check.left.Tie as tie

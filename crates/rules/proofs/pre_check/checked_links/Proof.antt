@@ -3,10 +3,10 @@ use Prim.Native.Nat.{_-_}
 use mathlib.Core.Path.{refl}
 use native.Mathlib.Omega.{arith}
 use borrow.Author.Needs.{needs}
-use Rattle.machine.specs.Setup.{emptyMachine}
-use Rattle.machine.specs.Writes.{withViews}
-use Rattle.rules.specs.PreCheck.{checkedLink}
-use Rattle.machine.proofs.Fill.{Filled, fill-end, fill-start, fill-step}
+use Rattle.protocol.specs.Setup.{emptyMachine}
+use Rattle.protocol.specs.Writes.{withViews}
+use Rattle.protocol.specs.PreCheck.{checkedLink}
+use Rattle.unbroken.proofs.Fill.{Filled, fill-end, fill-start, fill-step}
 use Rattle.rules.proofs.pre_check.checked_links.Statement.{statement}
 use Rattle.rules.proofs.pre_check.checked_links.Tie as tie
 

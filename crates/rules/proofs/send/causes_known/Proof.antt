@@ -4,10 +4,10 @@ use mathlib.Core.Path.{_∙_, sym}
 use native.Mathlib.Omega.{arith}
 use borrow.Author.Needs.{needs}
 use borrow.Author.Tests.{not-false, not-true}
-use Rattle.machine.specs.Setup.{emptyMachine}
-use Rattle.machine.specs.Writes.{withMade, withViews}
-use Rattle.rules.specs.Send.{causeKnown, causesKnown}
-use Rattle.machine.proofs.Pass.{Below, below-end, below-start, below-step, below-stop}
+use Rattle.protocol.specs.Setup.{emptyMachine}
+use Rattle.protocol.specs.Writes.{withMade, withViews}
+use Rattle.protocol.specs.Send.{causeKnown, causesKnown}
+use Rattle.unbroken.proofs.Pass.{Below, below-end, below-start, below-step, below-stop}
 use Rattle.rules.proofs.send.causes_known.Statement.{statement}
 use Rattle.rules.proofs.send.causes_known.Tie as tie
 

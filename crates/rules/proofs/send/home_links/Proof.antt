@@ -2,8 +2,8 @@
 use Prim.Native.Nat.{_-_}
 use mathlib.Core.Path.{refl}
 use native.Mathlib.Omega.{arith}
-use Rattle.rules.specs.Send.{homeLink}
-use Rattle.machine.proofs.Fill.{Filled, fill-end, fill-start, fill-step}
+use Rattle.protocol.specs.Send.{homeLink}
+use Rattle.unbroken.proofs.Fill.{Filled, fill-end, fill-start, fill-step}
 use Rattle.rules.proofs.send.home_links.Statement.{statement}
 use Rattle.rules.proofs.send.home_links.Tie as tie
 

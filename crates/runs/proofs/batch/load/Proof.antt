@@ -3,7 +3,7 @@ use Prim.Native.Nat.{_-_}
 use mathlib.Core.Path.{sym, _∙_}
 use native.Mathlib.Omega.{arith}
 use borrow.Author.Needs.{needs}
-use Rattle.runs.proofs.Some.{Loading, load-start, load-step, load-bad, load-all}
+use Rattle.reads.proofs.Some.{Loading, load-start, load-step, load-bad, load-all}
 use Rattle.runs.proofs.batch.load.Statement.{statement}
 use Rattle.runs.proofs.batch.load.Tie as tie
 

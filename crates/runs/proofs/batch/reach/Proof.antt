@@ -3,7 +3,7 @@ use Prim.Native.Nat.{_-_}
 use mathlib.Core.Path.{sym, _∙_}
 use native.Mathlib.Omega.{arith}
 use borrow.Author.Needs.{needs}
-use Rattle.runs.proofs.Some.{Reaching, reach-start, reach-step}
+use Rattle.reads.proofs.Some.{Reaching, reach-start, reach-step}
 use Rattle.runs.proofs.batch.reach.Statement.{statement}
 use Rattle.runs.proofs.batch.reach.Tie as tie
 

@@ -1,6 +1,6 @@
 -- Each exit is the case that the tests pick. Assumes nothing.
 use borrow.Author.Needs.{needs}
-use Rattle.machine.proofs.Tests.{tests}
+use Rattle.unbroken.proofs.Tests.{tests}
 use Rattle.runs.proofs.book.read_kind.Statement.{statement}
 use Rattle.runs.proofs.book.read_kind.Tie as tie
 

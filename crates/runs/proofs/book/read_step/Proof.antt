@@ -3,9 +3,9 @@ use native.Mathlib.Omega.{arith}
 use lib.ListN.{getD}
 use borrow.Author.Tests.{lt-leb}
 use borrow.Author.Needs.{needs}
-use Rattle.machine.proofs.Tests.{tests}
-use Rattle.runs.specs.Book.{readStep}
-use Rattle.runs.proofs.Reading.{width-low}
+use Rattle.unbroken.proofs.Tests.{tests}
+use Rattle.protocol.specs.Book.{readStep}
+use Rattle.reads.proofs.Reading.{width-low}
 use Rattle.runs.proofs.book.read_step.Statement.{statement}
 use Rattle.runs.proofs.book.read_step.Tie as tie
 

@@ -1,6 +1,6 @@
 -- Each arm of kinds 9 to 16 is the step that the definition picks, since the tests before it fail. Assumes nothing.
 use borrow.Author.Tests.{ne-eqb}
-use Rattle.runs.specs.Book.{repairMade}
+use Rattle.protocol.specs.Book.{repairMade}
 use Rattle.runs.proofs.book.repair_made.Statement.{statement}
 use Rattle.runs.proofs.book.repair_made.Tie as tie
 

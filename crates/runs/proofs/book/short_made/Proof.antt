@@ -1,7 +1,7 @@
 -- Each arm of kinds 2 to 8 is the step that the definition picks, since the tests before it fail. Assumes nothing.
 use borrow.Author.Tests.{ne-eqb}
 use borrow.Author.Needs.{needs}
-use Rattle.runs.specs.Book.{shortMade}
+use Rattle.protocol.specs.Book.{shortMade}
 use Rattle.runs.proofs.book.short_made.Statement.{statement}
 use Rattle.runs.proofs.book.short_made.Tie as tie
 

@@ -1,7 +1,7 @@
 -- The fields that are read are those that the definition names. Assumes nothing.
 use borrow.Author.Tests.{eq-eqb, ne-eqb}
 use borrow.Author.Needs.{needs}
-use Rattle.runs.specs.Book.{stepMade}
+use Rattle.protocol.specs.Book.{stepMade}
 use Rattle.runs.proofs.book.step_made.Statement.{statement}
 use Rattle.runs.proofs.book.step_made.Tie as tie
 

@@ -2,7 +2,7 @@
 use mathlib.Core.Path.{refl, sym}
 use lib.ListN.{List·getD-eq-default}
 use borrow.Author.Needs.{needs}
-use Rattle.runs.specs.Book.{widths, widthOf}
+use Rattle.protocol.specs.Book.{widths, widthOf}
 use Rattle.runs.proofs.book.width_of.Statement.{statement}
 use Rattle.runs.proofs.book.width_of.Tie as tie
 

@@ -4,8 +4,8 @@ use mathlib.Core.Path.{refl}
 use native.Mathlib.Omega.{arith}
 use lib.ListN.{getD}
 use lib.Dec.{ltb}
-use Rattle.machine.proofs.Fill.{Filled, fill-start, fill-step, fill-end}
-use Rattle.machine.specs.Words.{pick}
+use Rattle.unbroken.proofs.Fill.{Filled, fill-start, fill-step, fill-end}
+use Rattle.protocol.specs.Words.{pick}
 use Rattle.runs.proofs.heading.column.Statement.{statement}
 use Rattle.runs.proofs.heading.column.Tie as tie
 

@@ -1,6 +1,6 @@
 -- The count stands behind the rows, as defined. Assumes nothing.
 use borrow.Author.Needs.{needs}
-use Rattle.runs.specs.Book.{countOf}
+use Rattle.protocol.specs.Book.{countOf}
 use Rattle.runs.proofs.heading.count_of.Statement.{statement}
 use Rattle.runs.proofs.heading.count_of.Tie as tie
 

@@ -1,6 +1,6 @@
 -- The setup is made of the counts and the two columns that were read. Assumes nothing.
 use borrow.Author.Needs.{needs}
-use Rattle.runs.specs.Book.{setupRead}
+use Rattle.protocol.specs.Book.{setupRead}
 use Rattle.runs.proofs.heading.setup_read.Statement.{statement}
 use Rattle.runs.proofs.heading.setup_read.Tie as tie
 

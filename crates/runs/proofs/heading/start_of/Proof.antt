@@ -1,6 +1,6 @@
 -- The steps start behind the rows, as defined. Assumes nothing.
 use borrow.Author.Needs.{needs}
-use Rattle.runs.specs.Book.{startOf}
+use Rattle.protocol.specs.Book.{startOf}
 use Rattle.runs.proofs.heading.start_of.Statement.{statement}
 use Rattle.runs.proofs.heading.start_of.Tie as tie
 

@@ -3,7 +3,7 @@
 use mathlib.Core.Path.{refl, sym, _∙_}
 use native.Mathlib.Omega.{arith}
 use borrow.Author.Needs.{needs}
-use Rattle.runs.proofs.Reading.{Checking, check-bad, check-got, check-end}
+use Rattle.reads.proofs.Reading.{Checking, check-bad, check-got, check-end}
 use Rattle.runs.proofs.heading.valid_from.Statement.{statement}
 use Rattle.runs.proofs.heading.valid_from.Tie as tie
 

@@ -1,7 +1,7 @@
 -- Each exit is a test of the definition that failed, or the last one. Assumes nothing.
 use borrow.Author.Tests.{lt-leb, le-leb}
 use borrow.Author.Needs.{needs}
-use Rattle.runs.specs.Book.{wellFormed}
+use Rattle.protocol.specs.Book.{wellFormed}
 use Rattle.runs.proofs.heading.well_formed.Statement.{statement}
 use Rattle.runs.proofs.heading.well_formed.Tie as tie
 

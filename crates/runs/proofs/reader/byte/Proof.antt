@@ -5,7 +5,7 @@ use denote.Builtin.{u8}
 use denote.Plain.{uint-lawful}
 use denote.Triple.Spec.{tripleOf}
 use denote.Triple.Table.{entered, cited}
-use Rattle.runs.specs.Book.{byte}
+use Rattle.protocol.specs.Book.{byte}
 use Rattle.runs.proofs.Passing.{apart-meets}
 use Rattle.runs.proofs.book.byte as callee
 use Rattle.runs.proofs.book.byte.Symbol as called

@@ -5,7 +5,7 @@ use denote.Builtin.{u8}
 use denote.Plain.{uint-lawful}
 use denote.Triple.Spec.{tripleOf}
 use denote.Triple.Table.{entered, cited}
-use Rattle.runs.specs.Book.{byte}
+use Rattle.protocol.specs.Book.{byte}
 use Rattle.runs.proofs.Passing.{made-meets}
 use Rattle.runs.proofs.reader.new as maker
 use Rattle.runs.proofs.reader.new.Symbol as making

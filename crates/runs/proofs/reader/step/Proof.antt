@@ -1,11 +1,11 @@
 -- The reader is taken apart, and the step is read in its book. Assumes nothing.
 use contract.Running.{givenOf, tables, tablesOf}
 use denote.Enum.Laws as EL
-use Rattle.runs.proofs.Read as S
-use Rattle.runs.proofs.Read.Laws as S′
+use Rattle.protocol.proofs.Read as S
+use Rattle.protocol.proofs.Read.Laws as S′
 use denote.Triple.Spec.{tripleOf}
 use denote.Triple.Table.{entered, cited}
-use Rattle.runs.specs.Book.{readStep}
+use Rattle.protocol.specs.Book.{readStep}
 use Rattle.runs.proofs.Passing.{apart-meets}
 use Rattle.runs.proofs.book.read_step as callee
 use Rattle.runs.proofs.book.read_step.Symbol as called

@@ -1,11 +1,11 @@
 -- A reader is made, and passed on to `step`. Assumes nothing.
 use contract.Running.{givenOf, tables, tablesOf}
 use denote.Enum.Laws as EL
-use Rattle.runs.proofs.Read as S
-use Rattle.runs.proofs.Read.Laws as S′
+use Rattle.protocol.proofs.Read as S
+use Rattle.protocol.proofs.Read.Laws as S′
 use denote.Triple.Spec.{tripleOf}
 use denote.Triple.Table.{entered, cited}
-use Rattle.runs.specs.Book.{readStep}
+use Rattle.protocol.specs.Book.{readStep}
 use Rattle.runs.proofs.Passing.{made-meets}
 use Rattle.runs.proofs.reader.new as maker
 use Rattle.runs.proofs.reader.new.Symbol as making

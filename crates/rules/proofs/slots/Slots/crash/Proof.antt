@@ -2,7 +2,7 @@
 use mathlib.Core.Path.{refl}
 use borrow.Author.Tests.{eq-eqb, ne-eqb}
 use lib.Seq.{set-getD}
-use Rattle.rules.specs.Crash.{crashNo, crashed}
+use Rattle.protocol.specs.Crash.{crashNo, crashed}
 use Rattle.rules.proofs.Standing.{refuses, grants}
 use borrow.Author.Needs.{needs}
 use Rattle.rules.proofs.slots.Slots.crash.Statement.{statement}

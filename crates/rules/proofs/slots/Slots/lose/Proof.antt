@@ -1,6 +1,6 @@
 -- `lose` meets its contract: the copies are what `copies` tells, and one less is what `lost` leaves. Assumes nothing.
 use mathlib.Core.Path.{refl, _∙_, sym}
-use Rattle.rules.specs.Lose.{loseNo, lost}
+use Rattle.protocol.specs.Lose.{loseNo, lost}
 use Rattle.rules.proofs.Kit.{told, told-not}
 use Rattle.rules.proofs.Standing.{refuses, grants}
 use borrow.Author.Needs.{needs}

@@ -2,7 +2,7 @@
 use mathlib.Core.Path.{refl}
 use borrow.Author.Tests.{eq-eqb, ne-eqb}
 use lib.Seq.{set-getD}
-use Rattle.rules.specs.Restart.{restartNo, restarted}
+use Rattle.protocol.specs.Restart.{restartNo, restarted}
 use Rattle.rules.proofs.Standing.{refuses, grants}
 use borrow.Author.Needs.{needs}
 use Rattle.rules.proofs.slots.Slots.restart.Statement.{statement}

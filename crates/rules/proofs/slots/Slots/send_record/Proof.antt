@@ -3,7 +3,7 @@ use borrow.Author.Needs.{needs}
 use borrow.Author.Tests.{eq-eqb, ne-eqb}
 use mathlib.Core.Path.{refl}
 use lib.Seq.{set-getD}
-use Rattle.rules.specs.SendRecord.{recordSent, sendRecordNo}
+use Rattle.protocol.specs.SendRecord.{recordSent, sendRecordNo}
 use Rattle.rules.proofs.Standing.{refuses, grants, beside-view}
 use Rattle.rules.proofs.slots.Slots.send_record.Statement.{statement}
 use Rattle.rules.proofs.slots.Slots.send_record.Tie as tie

@@ -2,7 +2,7 @@
 use mathlib.Core.Path.{refl}
 use Rattle.rules.proofs.Kit.{told, told-not}
 use lib.Seq.{set-getD}
-use Rattle.rules.specs.SendUpdate.{sendUpdateNo, updateSent}
+use Rattle.protocol.specs.SendUpdate.{sendUpdateNo, updateSent}
 use Rattle.rules.proofs.Standing.{refuses, grants, beside-view}
 use borrow.Author.Needs.{needs}
 use Rattle.rules.proofs.slots.Slots.send_update.Statement.{statement}

@@ -2,7 +2,7 @@
 use mathlib.Core.Path.{refl}
 use borrow.Author.Tests.{eq-eqb, ne-eqb}
 use lib.Seq.{set-getD}
-use Rattle.rules.specs.TakeRepair.{takeRepairNo, repairTaken}
+use Rattle.protocol.specs.TakeRepair.{takeRepairNo, repairTaken}
 use Rattle.rules.proofs.Inside.{role-of-view}
 use Rattle.rules.proofs.Standing.{refuses, grants, key-of, role-of}
 use borrow.Author.Needs.{needs}

@@ -2,7 +2,7 @@
 use mathlib.Core.Path.{refl}
 use borrow.Author.Tests.{eq-eqb, ne-eqb}
 use lib.Seq.{set-getD}
-use Rattle.rules.specs.TakeUack.{takeUackNo, uackTaken}
+use Rattle.protocol.specs.TakeUack.{takeUackNo, uackTaken}
 use Rattle.rules.proofs.Standing.{refuses, grants, beside-view}
 use borrow.Author.Needs.{needs}
 use Rattle.rules.proofs.slots.Slots.take_uack.Statement.{statement}

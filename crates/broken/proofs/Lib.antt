@@ -1,0 +1,4 @@
+pub mod Count
+pub mod Full
+pub mod Slots
+pub mod Statuses

@@ -1,0 +1,22 @@
+-- By its tests. Assumes nothing.
+use Rattle.unbroken.proofs.Tests.{tests}
+use Rattle.broken.proofs.held.same_contents.Statement.{statement}
+use Rattle.broken.proofs.held.same_contents.Tie as tie
+
+returns : tie.Need-returns
+returns c = search tests
+
+returns-2 : tie.Need-returns-2
+returns-2 c = search tests
+
+returns-3 : tie.Need-returns-3
+returns-3 c = search tests
+
+returns-4 : tie.Need-returns-4
+returns-4 c = search tests
+
+returns-5 : tie.Need-returns-5
+returns-5 c = search tests
+
+pub same-contents-spec : {M : Type 1} → statement M
+same-contents-spec = tie.close (tie.spec returns returns-2 returns-3 returns-4 returns-5)

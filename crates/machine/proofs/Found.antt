@@ -1,0 +1,116 @@
+-- The slots of the actor, the view and the store that are found are those that the step is about: what stands there
+-- has the bounds that its rule needs, and a number that lies outside refuses it. Assumes nothing.
+use Prim.Native.Nat.{ℕ, _<_, _/_, _%_}
+use mathlib.Core.Path.{_≡_, _∙_, ap, sym}
+use mathlib.Core.Bool.{Bool, true, false}
+use native.Mathlib.Omega.{arith}
+use Rattle.protocol.specs.Words.{pick}
+use Rattle.unbroken.specs.Bounds.{Bounds}
+use Rattle.protocol.specs.Setup.{answered, emptyMachine}
+use Rattle.protocol.specs.Writes.{withMade, withViews}
+use Rattle.protocol.specs.Slots.{number, queue, view, entry}
+use Rattle.protocol.specs.declared.State.{State}
+use Rattle.rules.specs.About.{aboutOf, nextView, storeOf, viewAbout, actorAbout, storeAbout, outsideOf}
+use Rattle.protocol.specs.Rule.{head}
+use Rattle.rules.specs.Slots.{Stands, Fits, noPast, pastOf, pastAbout, slotsAt, withSlotsAt, slotsOf, withSlots, outcome}
+use Rattle.protocol.specs.Step.{ruleOf}
+use Rattle.protocol.specs.Send.{causesKnown, sendNo}
+use Rattle.protocol.specs.Receive.{receiveNo}
+use Rattle.protocol.specs.PreCheck.{preCheckNo}
+use Rattle.protocol.specs.SendRecord.{sendRecordNo}
+use Rattle.protocol.specs.Timeout.{timeoutNo}
+use Rattle.protocol.specs.TakeRecord.{takeRecordNo}
+use Rattle.protocol.specs.TakeAck.{takeAckNo}
+use Rattle.protocol.specs.PostCheck.{postCheckNo}
+use Rattle.protocol.specs.TakeRepair.{takeRepairNo}
+use Rattle.protocol.specs.SendUpdate.{sendUpdateNo}
+use Rattle.protocol.specs.TakeUpdate.{takeUpdateNo}
+use Rattle.protocol.specs.TakeUack.{takeUackNo}
+use Rattle.protocol.specs.Expire.{expireNo}
+use Rattle.protocol.specs.Lose.{loseNo}
+use Rattle.protocol.specs.Crash.{crashNo}
+use Rattle.protocol.specs.Restart.{restartNo}
+use Rattle.rules.specs.declared.about.About.{About}
+use Rattle.rules.specs.declared.past.Past.{Past}
+use Rattle.rules.specs.declared.slots.Slots.{Slots}
+use Rattle.rules.specs.declared.slots.Tried.{Tried}
+use Rattle.protocol.specs.declared.Step.{Step}
+use Rattle.protocol.specs.declared.Step.the-variants.{Send, Receive, PreCheck, SendRecord, Timeout, TakeRecord, TakeAck, PostCheck, TakeRepair, SendUpdate, TakeUpdate, TakeUack, Expire, Lose, Crash, Restart}
+use Rattle.rules.proofs.Inside.{key-low}
+
+pub outside-refuses : (m : State) (s : Step) → outsideOf (m .stores) (m .actors) (m .made) s ≡ true → ruleOf m s ≡ answered 2 m
+unfolding ruleOf sendNo receiveNo preCheckNo sendRecordNo timeoutNo takeRecordNo takeAckNo postCheckNo takeRepairNo sendUpdateNo takeUpdateNo takeUackNo expireNo loseNo crashNo restartNo
+outside-refuses m (Send from to own word causes) e = simp e
+outside-refuses m (Receive k) e = simp e
+outside-refuses m (PreCheck a) e = simp e
+outside-refuses m (SendRecord a) e = simp e
+outside-refuses m (Timeout a p) e = simp e
+outside-refuses m (TakeRecord p k r) e = simp e
+outside-refuses m (TakeAck p k r) e = simp e
+outside-refuses m (PostCheck a) e = simp e
+outside-refuses m (TakeRepair k r) e = simp e
+outside-refuses m (SendUpdate k r) e = simp e
+outside-refuses m (TakeUpdate p k r) e = simp e
+outside-refuses m (TakeUack p k r) e = simp e
+outside-refuses m (Expire k r) e = simp e
+outside-refuses m (Lose what p k r) e = simp e
+outside-refuses m (Crash p) e = simp e
+outside-refuses m (Restart p) e = simp e
+
+-- what a step looks back at, whether it does or not
+pub looked : (m : State) (b : About) (v : ℕ) {past : Past} (t : Bool) → b .back ≡ t
+    → past ≡ pick t (pastOf (withMade (withViews emptyMachine (m .views)) (m .made)) (b .actor) (b .causes) (view m v)) noPast → past ≡ pastAbout m b v
+unfolding causesKnown
+looked m b v t e same = same ∙ sym (ap (λ (u : Bool). pick u (pastOf m (b .actor) (b .causes) (view m v)) noPast) e)
+
+-- how the code finds them, one after another, and what it looks back at
+pub record Found (m : State) (s : Step) (b : About) (a v p : ℕ) (past : Past) : Type 0 where
+  pub about : b ≡ aboutOf s
+  pub viewed : v ≡ viewAbout m b
+  pub acted : a ≡ pick (b .acting) (b .actor) (view m v .actor)
+  pub stored : p ≡ storeOf (b .whose) (b .store) (view m v .store) (entry m v .destination)
+  pub looked : past ≡ pastAbout m b v
+
+-- a view that is not yet received has room in its actor's queue
+room-of : (m : State) → Bounds m → (v a : ℕ) → v % 2 ≡ 1 → v / 2 < m .made → a ≡ view m v .actor → view m v .phase ≡ 0 → queue m a .len < 16
+room-of m low v a odd made same zero =
+    let n : number (v / 2) 1 ≡ v = omega (arith, odd) in
+    rw same (rw n at (low .receiveRoom (v / 2) made (rw n zero)))
+
+module _ {m : State} {s : Step} {b : About} {a v p : ℕ} {past : Past} (f : Found m s b a v p past) where
+  view-is : v ≡ viewAbout m (aboutOf s)
+  view-is = f .viewed ∙ ap (viewAbout m) (f .about)
+
+  actor-is : a ≡ actorAbout m (aboutOf s)
+  actor-is = f .acted ∙ (ap (λ (u : ℕ). pick (b .acting) (b .actor) (view m u .actor)) (f .viewed) ∙ ap (actorAbout m) (f .about))
+
+  store-is : p ≡ storeAbout m (aboutOf s)
+  store-is =
+      f .stored ∙ (ap (λ (u : ℕ). storeOf (b .whose) (b .store) (view m u .store) (entry m u .destination)) (f .viewed) ∙ ap (storeAbout m) (f .about))
+
+  past-is : past ≡ pastAbout m (aboutOf s) (viewAbout m (aboutOf s))
+  past-is = f .looked ∙ (λ i. pastAbout m (f .about i) (view-is i))
+
+  pub stands : outsideOf (m .stores) (m .actors) (m .made) s ≡ false → Stands m s (slotsAt m b a v p past)
+  stands e = record { inside = e; slots = λ i. slotsAt m (f .about i) (actor-is i) (view-is i) (store-is i) (past-is i) }
+
+  -- what the rule gives is what is written there
+  pub written : (t : Tried) → ruleOf m s ≡ outcome m s t → answered (t .answer) (withSlotsAt m b a v p (t .slots)) ≡ ruleOf m s
+  written t e = ap (answered (t .answer)) (λ i. withSlotsAt m (f .about i) (actor-is i) (view-is i) (store-is i) (t .slots)) ∙ sym e
+
+  pub fits : Bounds m → outsideOf (m .stores) (m .actors) (m .made) s ≡ false → v < 32 → a < 8 → p < 8 → Fits (aboutOf s) (slotsAt m b a v p past)
+  fits low e v-low a-low p-low =
+      record {
+        number32 = v-low;
+        store8 = p-low;
+        viewlink8 = low .viewlinkIn8 v v-low;
+        own8 = low .ownIn8 v v-low;
+        named = named-is;
+        room = λ unnamed odd.
+            room-of m low v a odd (rw (← named-is unnamed) at (key-low m low s e unnamed (rw (← named-is unnamed) odd)))
+            (f .acted ∙ ap (λ (t : Bool). pick t (b .actor) (view m v .actor)) (ap (λ (c : About). c .acting) (f .about) ∙ unnamed));
+        sendRoom = λ making made. low .sendRoom a a-low made;
+      }
+    where
+      named-is : aboutOf s .acting ≡ false → v ≡ aboutOf s .view
+      named-is unnamed = view-is ∙ ap (λ (t : Bool). pick t (pick (aboutOf s .making) (nextView (m .made)) (head m (aboutOf s .actor))) (aboutOf s .view)) unnamed

@@ -1,4 +1,0 @@
-pub mod Book
-pub mod Write
-pub mod Run
-pub mod Drain

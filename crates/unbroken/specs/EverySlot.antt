@@ -1,0 +1,168 @@
+-- What each slot of an unbroken machine holds: the facts of `Unbroken`, gathered by slot, for proofs that write a slot.
+use Prim.Native.Nat.{ℕ, _*_, _-_, _/_, _%_, _^_, _≤_, _<_}
+use mathlib.Core.Path.{_≡_}
+use mathlib.Core.Logic.{_≢_}
+use mathlib.Core.Bool.{Bool, true, false}
+use mathlib.Core.List.{List}
+use lib.ListN.{length, getD}
+use Rattle.protocol.specs.Words.{bit, times}
+use Rattle.protocol.specs.Slots.{number, noView, statusNumber, home, list, shelf, queue, standing, message, view, repair, entry}
+use Rattle.protocol.specs.Slots.{recordCopies, ackCopies, updateCopies, uackCopies, contents, causeLinks}
+use Rattle.protocol.specs.Views.{unsetView, relinked}
+use Rattle.protocol.specs.Setup.{storesIn}
+use Rattle.protocol.specs.declared.State.{State}
+use Rattle.protocol.specs.declared.View.{View}
+use Rattle.protocol.specs.declared.Queue.{Queue}
+use Rattle.protocol.specs.declared.Contents.{Contents}
+use Rattle.protocol.specs.declared.Message.{Message}
+use Rattle.protocol.specs.declared.Repair.{Repair}
+use Rattle.protocol.specs.declared.Entry.{Entry}
+use Rattle.protocol.specs.declared.Store.{Store}
+
+-- every slot is there
+pub record Sized (m : State) : Type 0 where
+  pub homes : length (m .homes) ≡ 8
+  pub lists : length (m .lists) ≡ 8
+  pub queues : length (m .queues) ≡ 8
+  pub shelves : length (m .shelves) ≡ 8
+  pub messages : length (m .messages) ≡ 16
+  pub views : length (m .views) ≡ 32
+  pub repairs : length (m .repairs) ≡ 32
+  pub entries : length (m .entries) ≡ 32
+  pub records : length (m .records) ≡ 256
+  pub acks : length (m .acks) ≡ 256
+  pub updates : length (m .updates) ≡ 256
+  pub uacks : length (m .uacks) ≡ 256
+  pub contents : length (m .contents) ≡ 256
+  pub links : length (m .links) ≡ 128
+
+-- a home and the bits of a list name stores, the home is in its list, and the list has two stores or more
+pub record LegalActor (stores home list : ℕ) : Type 0 where
+  pub homeIn : home < stores
+  pub listIn : list / 2 ^ stores ≡ 0
+  pub homeListed : bit list home ≡ true
+  pub twoListed : 2 ≤ storesIn list
+
+-- 2 to 8 stores, 2 to 8 actors, and each actor's home and list
+pub record LegalSetup (stores actors : ℕ) (homes lists : List ℕ) : Type 0 where
+  pub stores2 : 2 ≤ stores
+  pub stores8 : stores ≤ 8
+  pub actors2 : 2 ≤ actors
+  pub actors8 : actors ≤ 8
+  pub actorAt : (a : ℕ) → a < actors → LegalActor stores (getD homes a 0) (getD lists a 0)
+
+-- the empty machine's setup, or a legal one
+pub data SetupKind (stores actors : ℕ) (homes lists : List ℕ) : Type 0 where
+  none : stores ≡ 0 → actors ≡ 0 → SetupKind stores actors homes lists
+  some : LegalSetup stores actors homes lists → SetupKind stores actors homes lists
+
+-- just the actor is set (the links are blank where no causes are)
+abbrev pub Unset : View → Type 0
+Unset w = w ≡ relinked (w .links) (unsetView (w .actor))
+
+-- the view v; `sender` is the actor of the view before it, which is the sender's where v is a receiver's
+pub record ViewSlot (stores actors made sender v : ℕ) (w : View) : Type 0 where
+  pub linksLong : length (w .links) ≡ 16
+  pub causeBelow : (j : ℕ) → j < 16 → bit (w .causes) j ≡ true → j < v / 2
+  pub linkIn : (j : ℕ) → j < 16 → bit (w .causes) j ≡ true → getD (w .links) j 0 < stores
+  pub linkBlank : (j : ℕ) → j < 16 → bit (w .causes) j ≡ false → getD (w .links) j 0 ≡ 0
+  pub storeIn : 1 ≤ w .phase → w .store < stores
+  pub viewlinkIn : 1 ≤ w .phase → w .viewlink < stores
+  pub unset : w .phase ≡ 0 → Unset w
+  pub actorIn : v < made * 2 → w .actor < actors
+  pub phase5 : v < made * 2 → w .phase ≤ 5
+  pub senderMade : v < made * 2 → v % 2 ≡ 0 → 1 ≤ w .phase
+  pub receiverCauses : v < made * 2 → v % 2 ≡ 1 → w .causes ≡ 0
+  pub twoActors : v < made * 2 → v % 2 ≡ 1 → w .actor ≢ sender
+  pub actorBlank : made * 2 ≤ v → w .actor ≡ 0
+  pub phaseBlank : made * 2 ≤ v → w .phase ≡ 0
+
+-- the queue of the actor a
+pub record QueueSlot (actors : ℕ) (views : List View) (a : ℕ) (q : Queue) : Type 0 where
+  pub long : length (q .views) ≡ 16
+  pub len16 : q .len ≤ 16
+  pub lenBlank : actors ≤ a → q .len ≡ 0
+  pub standsOwn : (i : ℕ) → i < q .len → getD views (getD (q .views) i 0) noView .actor ≡ a
+  pub standsFrom : (i : ℕ) → i < q .len → 1 ≤ getD views (getD (q .views) i 0) noView .phase
+  pub standsTo : (i : ℕ) → i < q .len → getD views (getD (q .views) i 0) noView .phase ≤ 4
+  pub behind : (i : ℕ) → i < q .len → 1 ≤ i → getD views (getD (q .views) i 0) noView .phase ≡ 1
+  pub placeBlank : (i : ℕ) → i < 16 → q .len ≤ i → getD (q .views) i 0 ≡ 0
+
+-- the message of the interaction k, whose receiver's view is in the phase given
+pub record MessageSlot (stores made phase k : ℕ) (g : Message) : Type 0 where
+  pub keyMade : g .flying ≡ true → k < made
+  pub unreceived : g .flying ≡ true → phase ≡ 0
+  pub ownIn : g .flying ≡ true → g .own < stores
+  pub sent : k < made → phase ≡ 0 → g .flying ≡ true
+  pub ownBlank : g .flying ≡ false → g .own ≡ 0
+  pub wordBlank : g .flying ≡ false → g .word ≡ 0
+
+-- the repair and the entry of a view in the phase given
+pub record RepairSlot (stores phase : ℕ) (r : Repair) : Type 0 where
+  pub settled : r .flying ≡ true → phase ≡ 5
+  pub destinationIn : r .flying ≡ true → r .destination < stores
+  pub ownIn : r .flying ≡ true → r .own < stores
+  pub destinationBlank : r .flying ≡ false → r .destination ≡ 0
+  pub ownBlank : r .flying ≡ false → r .own ≡ 0
+
+pub record EntrySlot (stores phase : ℕ) (e : Entry) : Type 0 where
+  pub settled : 1 ≤ statusNumber (e .status) → phase ≡ 5
+  pub destinationIn : 1 ≤ statusNumber (e .status) → e .destination < stores
+  pub ownIn : 1 ≤ statusNumber (e .status) → e .own < stores
+  pub destinationBlank : statusNumber (e .status) ≡ 0 → e .destination ≡ 0
+  pub ownBlank : statusNumber (e .status) ≡ 0 → e .own ≡ 0
+
+-- n copies at the store p: of a view whose phase, or status, is at least the least
+pub record CopySlot (stores p least at n : ℕ) : Type 0 where
+  pub copies15 : n ≤ 15
+  pub atStore : 1 ≤ n → p < stores
+  pub atView : 1 ≤ n → least ≤ at
+
+-- what the store p holds for a view with the record w
+pub record ContentsSlot (stores p : ℕ) (w : View) (c : Contents) : Type 0 where
+  pub atStore : c .held ≡ true → p < stores
+  pub ready : c .held ≡ true → 2 ≤ w .phase
+  pub sameActor : c .held ≡ true → c .asserter ≡ w .actor
+  pub sameCauses : c .held ≡ true → c .causes ≡ w .causes
+  pub sameWord : c .held ≡ true → c .word ≡ w .word
+  pub actorBlank : c .held ≡ false → c .asserter ≡ 0
+  pub causesBlank : c .held ≡ false → c .causes ≡ 0
+  pub wordBlank : c .held ≡ false → c .word ≡ 0
+
+-- the cause links beside a sender's contents
+pub record LinksSlot (held : Bool) (links to : List ℕ) : Type 0 where
+  pub long : length to ≡ 16
+  pub sameLinks : (j : ℕ) → j < 16 → held ≡ true → getD to j 0 ≡ getD links j 0
+  pub linksBlank : (j : ℕ) → j < 16 → held ≡ false → getD to j 0 ≡ 0
+
+-- a viewlink, 0 for none
+pub record ViewlinkSlot (stores made p v l : ℕ) : Type 0 where
+  pub linkIn : l ≤ stores
+  pub atStore : 1 ≤ l → p < stores
+  pub atView : 1 ≤ l → v < made * 2
+
+-- the store p: down where it isn't there; its viewlinks, by view
+pub record StoreSlot (stores made p : ℕ) (s : Store) : Type 0 where
+  pub upBlank : stores ≤ p → s .up ≡ false
+  pub long : length (s .viewlinks) ≡ 32
+  pub linkAt : (v : ℕ) → v < 32 → ViewlinkSlot stores made p v (getD (s .viewlinks) v 0)
+
+pub record EverySlot (m : State) : Type 0 where
+  pub sized : Sized m
+  pub made16 : m .made ≤ 16
+  pub setup : SetupKind (m .stores) (m .actors) (m .homes) (m .lists)
+  pub homeBlank : (a : ℕ) → a < 8 → m .actors ≤ a → home m a ≡ 0
+  pub listBlank : (a : ℕ) → a < 8 → m .actors ≤ a → list m a ≡ 0
+  pub viewAt : (v : ℕ) → v < 32 → ViewSlot (m .stores) (m .actors) (m .made) (view m (v - 1) .actor) v (view m v)
+  pub onceAt : (v : ℕ) → v < 32 → 1 ≤ view m v .phase → view m v .phase ≤ 4 → times v (standing (queue m (view m v .actor))) ≡ 1
+  pub queueAt : (a : ℕ) → a < 8 → QueueSlot (m .actors) (m .views) a (queue m a)
+  pub messageAt : (k : ℕ) → k < 16 → MessageSlot (m .stores) (m .made) (view m (number k 1) .phase) k (message m k)
+  pub repairAt : (v : ℕ) → v < 32 → RepairSlot (m .stores) (view m v .phase) (repair m v)
+  pub entryAt : (v : ℕ) → v < 32 → EntrySlot (m .stores) (view m v .phase) (entry m v)
+  pub recordAt : (p v : ℕ) → p < 8 → v < 32 → CopySlot (m .stores) p 2 (view m v .phase) (recordCopies m p v)
+  pub ackAt : (p v : ℕ) → p < 8 → v < 32 → CopySlot (m .stores) p 2 (view m v .phase) (ackCopies m p v)
+  pub updateAt : (p v : ℕ) → p < 8 → v < 32 → CopySlot (m .stores) p 1 (statusNumber (entry m v .status)) (updateCopies m p v)
+  pub uackAt : (p v : ℕ) → p < 8 → v < 32 → CopySlot (m .stores) p 1 (statusNumber (entry m v .status)) (uackCopies m p v)
+  pub contentsAt : (p v : ℕ) → p < 8 → v < 32 → ContentsSlot (m .stores) p (view m v) (contents m p v)
+  pub linksAt : (p k : ℕ) → p < 8 → k < 16 → LinksSlot (contents m p (number k 0) .held) (view m (number k 0) .links) (causeLinks m p k)
+  pub storeAt : (p : ℕ) → p < 8 → StoreSlot (m .stores) (m .made) p (shelf m p)

@@ -1,0 +1,1 @@
+// The laws of a value that is not broken: definitions and proofs only, no function.
