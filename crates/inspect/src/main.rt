@@ -80,8 +80,8 @@ fn restart_all(from: State) -> State {
     let mut p: u8 = 0;
     while p < 8 {
         if p < m.stores {
-            let up = from.up;
-            m = restart(m, p, up[p as usize]);
+            let s = from.shelves[p as usize];
+            m = restart(m, p, s.up);
         }
         p += 1;
     }

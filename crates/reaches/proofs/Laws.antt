@@ -26,12 +26,12 @@ pub one-result : OneResult
 one-result m k x y p q = only (walkOf m k) x y p q
 
 -- the four answers of a walk
-data Answer (m : State) (k : ℕ) (r : Walked) : Type 0 where
+pub data Answer (m : State) (k : ℕ) (r : Walked) : Type 0 where
   refusing : (n : ℕ) → n ≢ 0 → r ≡ refusedWalk n → Answer m k r
   answering : brokenOf m ≡ false → k < m .made → walkedFrom m k .fine ≡ true
       → r ≡ record { answer = 0; keys = walkedFrom m k .keys; count = walkedFrom m k .count } → Answer m k r
 
-answer : (m : State) (k : ℕ) → Answer m k (walkOf m k)
+pub answer : (m : State) (k : ℕ) → Answer m k (walkOf m k)
 unfolding walkOf
 answer m k =
     by-test (brokenOf m)

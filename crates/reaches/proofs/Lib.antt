@@ -3,3 +3,4 @@ pub mod Counted
 pub mod Keys
 pub mod Visited
 pub mod Laws
+pub mod Applies

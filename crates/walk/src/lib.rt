@@ -7,7 +7,7 @@ ghost use Prim.Native.Nat.{ℕ, _+_, _<_, _≤_};
 ghost use Rattle.protocol.specs.Words.{bit, table};
 ghost use Rattle.protocol.specs.Broken.{brokenOf};
 ghost use Rattle.protocol.specs.Walk.{added, spoiled, causesHeld, hopOf, each, visitOf, refusedWalk, answerOf, walkOf};
-ghost use Rattle.walk.specs.Past.{restsIn, closedIn, heldIn, causesIn, Laid, LaidOut, Past, foundIn, receiptIn, hopIn};
+ghost use Rattle.walk.specs.Past.{restsIn, closedIn, heldIn, causesIn, viewlinkIn, Laid, LaidOut, Past, foundIn, receiptIn, hopIn};
 ghost use Rattle.reaches.specs.Tally.{Tally};
 use broken::is_broken;
 use protocol::Contents;
@@ -16,6 +16,7 @@ use protocol::Links;
 use protocol::Met;
 use protocol::Repair;
 use protocol::State;
+use protocol::Store;
 use protocol::View;
 use protocol::Walked;
 use protocol::status_number;
@@ -157,6 +158,20 @@ fn all_causes(contents: [Contents; 256]) -> [u16; 256]
         i += 1;
     }
     causes
+}
+
+// The viewlinks, by place.
+fn all_viewlinks(shelves: [Store; 8]) -> [u8; 256]
+    ensures { λ r. ⌜ r ≡ table (viewlinkIn shelves) 256 ⌝ }
+{
+    let mut out = [0u8; 256];
+    let mut i: usize = 0;
+    while i < 256 {
+        let s = shelves[i / 32];
+        out[i] = s.viewlinks[i % 32];
+        i += 1;
+    }
+    out
 }
 
 // The sixteen cause links of a sender, laid from `at`.
@@ -312,17 +327,19 @@ fn walk_unbroken(m: State, key: u8) -> Walked
     let entries = m.entries;
     let contents = m.contents;
     let links = m.links;
+    let shelves = m.shelves;
     let closed = all_closed(views, repairs, entries);
     let held = all_held(contents);
     let sets = all_causes(contents);
     let laid = all_links(links);
+    let viewlinks = all_viewlinks(shelves);
     let walked = visit(
         unmet,
         &closed,
         &held,
         &sets,
         &laid,
-        &m.viewlinks,
+        &viewlinks,
         k,
         link(view.store),
     );
