@@ -3,7 +3,9 @@
 //! Data flows one way: bytes, [`book`], [`step`]s, [`machine`], what the [`programs`] print.
 //! Beside that stand the [`text`] form of a book, its run [`explain`]ed in words, the [`check`]
 //! of a folder of cases, the seeded [`generate`]d books with their [`coverage`], and the
-//! [`compare`] that runs them through two other programs.
+//! [`compare`] that runs them through other programs.
+//!
+//! [`prep`], the store of the first PReP, shares nothing with the recorder but the comparison.
 
 mod broken;
 mod drain;
@@ -18,6 +20,7 @@ pub mod coverage;
 pub mod explain;
 pub mod generate;
 pub mod machine;
+pub mod prep;
 pub mod programs;
 pub mod random;
 pub mod refusal;

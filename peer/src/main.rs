@@ -10,10 +10,11 @@ use std::process::ExitCode;
 
 use peer::book::Book;
 use peer::check::{check, Programs};
-use peer::compare::{compare, Program};
+use peer::compare::{compare, Inputs, Program, BOOKS, MESSAGE_FILES};
 use peer::coverage::Coverage;
 use peer::explain::explain;
 use peer::generate::generate;
+use peer::prep;
 use peer::programs::{self, MAX_INPUT};
 use peer::text;
 
@@ -26,7 +27,11 @@ const USAGE: &str = "usage:
   peer check FOLDER [RECORDER INSPECT]        the cases of a folder, through two programs too
   peer generate SEED                          the book of a seed out
   peer coverage FROM COUNT                    what the books of some seeds cover
-  peer compare FROM COUNT RECORDER INSPECT    the books of some seeds through two programs";
+  peer compare FROM COUNT RECORDER INSPECT    the books of some seeds through two programs
+  peer prep                                   messages on standard input, answers and tables out
+  peer generate-prep SEED                     the message file of a seed out
+  peer coverage-prep FROM COUNT               what the message files of some seeds cover
+  peer compare-prep FROM COUNT PREP           the message files of some seeds through a program";
 
 type Outcome = Result<ExitCode, Box<dyn Error>>;
 
@@ -58,7 +63,16 @@ fn run(arguments: &[&str]) -> Outcome {
         }
         ["compare", from, count, recorder, inspect] => {
             let programs = [Program::recorder(recorder.into()), Program::inspect(inspect.into())];
-            compare_seeds(seeds(from, count)?, &programs)
+            compare_seeds(seeds(from, count)?, &BOOKS, &programs)
+        }
+        ["prep"] => print(prep::program::prep(&program_input()?).as_bytes()),
+        ["generate-prep", seed] => print(&prep::generate::generate(number(seed)?)),
+        ["coverage-prep", from, count] => {
+            let coverage = prep::coverage::Coverage::of_seeds(seeds(from, count)?);
+            print(coverage.to_string().as_bytes())
+        }
+        ["compare-prep", from, count, program] => {
+            compare_seeds(seeds(from, count)?, &MESSAGE_FILES, &[Program::prep(program.into())])
         }
         _ => Err(USAGE.into()),
     }
@@ -105,13 +119,14 @@ fn check_folder(folder: &str, programs: Option<Programs>) -> Outcome {
     Ok(if report.has_differences() { ExitCode::FAILURE } else { ExitCode::SUCCESS })
 }
 
-fn compare_seeds(seeds: Range<u64>, programs: &[Program]) -> Outcome {
-    if let Some(difference) = compare(seeds.clone(), programs)? {
+fn compare_seeds(seeds: Range<u64>, inputs: &Inputs, programs: &[Program]) -> Outcome {
+    if let Some(difference) = compare(seeds.clone(), inputs, programs)? {
         print(difference.to_string().as_bytes())?;
         return Ok(ExitCode::FAILURE);
     }
     let Range { start, end } = seeds;
-    print(format!("{} books from seed {start}: no difference\n", end - start).as_bytes())
+    let (count, name) = (end - start, inputs.name);
+    print(format!("{count} {name}s from seed {start}: no difference\n").as_bytes())
 }
 
 fn seeds(from: &str, count: &str) -> Result<Range<u64>, String> {

@@ -8,6 +8,7 @@ use std::process::{Command, Output, Stdio};
 use std::sync::atomic::{AtomicUsize, Ordering};
 
 use peer::generate::generate;
+use peer::prep;
 
 const PEER: &str = env!("CARGO_BIN_EXE_peer");
 
@@ -81,6 +82,19 @@ fn a_comparison_without_a_difference_says_so() {
     let output = peer(&["compare", "20", "40", &programs[0], &programs[1]], &[]);
     assert_eq!(text(&output.stdout), "40 books from seed 20: no difference\n");
     assert_eq!(output.status.code(), Some(0));
+}
+
+#[test]
+fn message_files_are_compared_too() {
+    let program = stand_in("prep").display().to_string();
+    let output = peer(&["compare-prep", "0", "60", &program], &[]);
+    assert_eq!(text(&output.stdout), "60 message files from seed 0: no difference\n");
+    assert_eq!(peer(&["generate-prep", "7"], &[]).stdout, prep::generate::generate(7));
+    let output = peer(&["compare-prep", "0", "1", "cat"], &[]);
+    let expected = "seed 0: prep differs, and the smallest such message file found is\n\n\n\
+                    the peer's prep:\n\nthe prep given:\n\0\0";
+    assert_eq!(text(&output.stdout), expected);
+    assert_eq!(output.status.code(), Some(1));
 }
 
 #[test]

@@ -8,6 +8,7 @@ mod examples;
 mod explain;
 mod generated;
 mod marked_runs;
+mod prep;
 mod programs;
 mod refusals;
 mod text_form;
