@@ -11,7 +11,6 @@ mod broken;
 mod drain;
 mod rules;
 mod shrink;
-mod walk;
 
 pub mod book;
 pub mod check;
@@ -26,3 +25,4 @@ pub mod random;
 pub mod refusal;
 pub mod step;
 pub mod text;
+pub mod walk;

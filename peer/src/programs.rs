@@ -6,6 +6,7 @@ use crate::book::{self, Book};
 use crate::machine::{members, Machine, Phase, View};
 use crate::refusal::{number, Refusal};
 use crate::step::Step;
+use crate::walk::Walk;
 
 /// Standard input longer than this is refused as malformed.
 pub const MAX_INPUT: usize = 65_536;
@@ -167,8 +168,8 @@ fn causes(out: &mut String, causes: u16, links: &[u8]) -> fmt::Result {
 
 fn walk_line(out: &mut String, machine: &Machine, key: u8) -> fmt::Result {
     match machine.walk(key) {
-        Ok(keys) => {
-            write!(out, "W {key} 0 {}", keys.len())?;
+        Ok(Walk { keys, lookups }) => {
+            write!(out, "W {key} 0 {} {lookups}", keys.len())?;
             keys.iter().try_for_each(|met| write!(out, " {met}"))?;
             writeln!(out)
         }

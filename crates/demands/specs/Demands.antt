@@ -25,7 +25,7 @@ use Rattle.reads.specs.Run.{OneResult as OneRun}
 use Rattle.reads.specs.Applies.{BookRefusals, MalformedExactly}
 use Rattle.drains.specs.Drains.{TakesEachStep, DrainEnds, DrainsOnce, CountIsFew}
 use Rattle.drains.specs.Applies.{DrainRefusals, RefusedDrain}
-use Rattle.reaches.specs.Reaches.{AnsweredReaches, KeysFew, RefusedEmpty}
+use Rattle.reaches.specs.Reaches.{AnsweredReaches, KeysFew, RefusedEmpty, LookupsExactly}
 use Rattle.reaches.specs.Reaches.{OneResult as OneWalk}
 use Rattle.reaches.specs.Applies.{WalkRefusals, KeysLookedUp}
 use Rattle.marked.specs.Marked.{Claim}
@@ -125,3 +125,4 @@ pub record Demands : Type 0 where
   pub answered-reaches : AnsweredReaches
   pub keys-few : KeysFew
   pub keys-looked-up : KeysLookedUp
+  pub lookups-exactly : LookupsExactly

@@ -240,11 +240,14 @@ pub struct Met {
     pub met: [bool; 16],
     pub keys: [u8; 16],
     pub count: u8,
+    // How many store entries were looked up.
+    pub lookups: u8,
 }
 
-// What a walk answers: no keys where it is refused.
+// What a walk answers: no keys and no lookups where it is refused.
 pub struct Walked {
     pub answer: u8,
     pub keys: [u8; 16],
     pub count: u8,
+    pub lookups: u8,
 }

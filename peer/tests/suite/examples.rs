@@ -45,5 +45,5 @@ fn the_rollback_finds_the_pair_after_the_drain() {
     let inspection = String::from_utf8(kept("rollback", "inspect")).expect("lines of text");
     let (before, after) = inspection.split_once("drain 0 ").expect("a drain that is taken");
     assert!(before.contains("\nW 2 13\n"));
-    assert!(after.contains("\nW 2 0 3 2 0 1\n"));
+    assert!(after.contains("\nW 2 0 3 5 2 0 1\n"));
 }

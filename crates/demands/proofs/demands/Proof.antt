@@ -17,7 +17,7 @@ use Rattle.reads.proofs.Range.{book-is-short}
 use Rattle.drains.proofs.Applies.{drain-refusals, refused-drain}
 use Rattle.drains.proofs.Courses.{takes, drain-ends, drains-once, count-few}
 use Rattle.reaches.proofs.Applies.{walk-refusals, keys-looked-up}
-use Rattle.reaches.proofs.Laws.{one-result as one-walk, refused-empty, answered-reaches, keys-few}
+use Rattle.reaches.proofs.Laws.{one-result as one-walk, refused-empty, answered-reaches, keys-few, lookups-exactly}
 use Rattle.marked.proofs.Marked.{marked-runs}
 use Rattle.guarantees.proofs.Demand.{one-acknowledgement, kept-for-ever, cause-links, stays-closed-for-ever, view-links}
 use Rattle.guarantees.proofs.Drained.{every-call, the-drain, books}
@@ -113,6 +113,7 @@ demanded =
       answered-reaches = answered-reaches;
       keys-few = keys-few;
       keys-looked-up = keys-looked-up;
+      lookups-exactly = lookups-exactly;
     }
 
 returns : tie.Need-returns

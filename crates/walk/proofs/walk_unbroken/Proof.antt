@@ -7,7 +7,9 @@ use lib.ListN.{length-map}
 use borrow.Author.Tests.{le-leb, lt-leb}
 use Rattle.unbroken.proofs.Laws.{unbroken}
 use Rattle.protocol.specs.Walk.{walkedFrom, walkOf}
+use mathlib.Core.Path.{refl}
 use Rattle.reaches.proofs.Counted.{tally-unmet}
+use Rattle.reaches.proofs.Keys.{none-met}
 use Rattle.walk.proofs.Taken.{taken}
 use borrow.Author.Needs.{needs}
 use Rattle.walk.proofs.walk_unbroken.Statement.{statement}
@@ -48,7 +50,7 @@ link-requires : tie.Need-link-requires
 link-requires c κs = search needs
 
 visit-requires : tie.Need-visit-requires
-visit-requires c κs = (omega (arith, unbroken _ (c .before .before .before .before .before .before .before .before .before .before .before .before .before .before .before .before .before .before .before .pre) .made16), tally-unmet)
+visit-requires c κs = (omega (arith, unbroken _ (c .before .before .before .before .before .before .before .before .before .before .before .before .before .before .before .before .before .before .before .pre) .made16), tally-unmet, none-met (c .before .before .before .before .before .before .before .before .before .before .before .before .before .before .before .before .before .before .before .args .key), refl)
 
 answer-requires : tie.Need-answer-requires
 answer-requires c κs = search needs
