@@ -40,11 +40,12 @@ uint8_t tautlichen_drain(const uint8_t *book, size_t book_len, uint8_t *text, si
                          uint16_t *count);
 
 /* Walks back from a key in the machine after a book: the keys met go into `keys`, each once, in the order first met, and how
- * many they are into `*count`.
+ * many they are into `*count`; how many store entries were looked up for them into `*lookups`, 2 * count - 1.
  *
  * 10, 11, then 2: no such key, 13: the walk meets an interaction that isn't closed, then 14: there are more keys than `keys`
  * has bytes. */
-uint8_t tautlichen_walk(const uint8_t *book, size_t book_len, uint8_t key, uint8_t *keys, size_t keys_len, uint8_t *count);
+uint8_t tautlichen_walk(const uint8_t *book, size_t book_len, uint8_t key, uint8_t *keys, size_t keys_len, uint8_t *count,
+                        uint8_t *lookups);
 
 /* Writes the walk of a key in the machine after a book as a PROV-N document into `text`, and its length in bytes into `*len`.
  * The text ends in a line feed and in no zero byte.

@@ -35,6 +35,15 @@ pub struct Drained<'t> {
     pub listing: &'t [u8],
 }
 
+/// What a walk gives.
+#[derive(Clone, Copy, Debug, PartialEq, Eq)]
+pub struct Walked<'k> {
+    /// The keys met, each once, in the order first met.
+    pub keys: &'k [u8],
+    /// How many store entries were looked up for them: one for the first key, two for each behind it.
+    pub lookups: u8,
+}
+
 // The exported functions: a slice is its pointer and its length, as in callers/c/tautlichen.h.
 mod linked {
     extern "C" {
@@ -68,6 +77,7 @@ mod linked {
             keys: *mut u8,
             keys_len: usize,
             count: *mut u8,
+            lookups: *mut u8,
         ) -> u8;
         pub fn tautlichen_lineage(
             book: *const u8,
@@ -151,13 +161,14 @@ pub fn drain<'t>(book: &[u8], text: &'t mut [u8]) -> Result<Drained<'t>, Refusal
     Ok(Drained { count, listing: &text[..len.into()] })
 }
 
-/// Walks back from a key in the machine after a book: the keys met, each once, in the order first met, written into `keys`.
+/// Walks back from a key in the machine after a book: the keys met, each once, in the order first met, written into `keys`,
+/// and how many store entries were looked up for them.
 ///
 /// Refused with 10 and 11 as [`run`], then 2 for a key that isn't made, 13 where the walk meets an interaction that isn't
 /// closed, then 14 where the keys are more than `keys` has room for.
-pub fn walk<'k>(book: &[u8], key: u8, keys: &'k mut [u8]) -> Result<&'k [u8], Refusal> {
-    let mut count = 0;
-    // Safety: as for `run`, and `count` is a local.
+pub fn walk<'k>(book: &[u8], key: u8, keys: &'k mut [u8]) -> Result<Walked<'k>, Refusal> {
+    let (mut count, mut lookups) = (0, 0);
+    // Safety: as for `run`, and `count` and `lookups` are locals.
     done(unsafe {
         linked::tautlichen_walk(
             book.as_ptr(),
@@ -166,9 +177,10 @@ pub fn walk<'k>(book: &[u8], key: u8, keys: &'k mut [u8]) -> Result<&'k [u8], Re
             keys.as_mut_ptr(),
             keys.len(),
             &mut count,
+            &mut lookups,
         )
     })?;
-    Ok(&keys[..count.into()])
+    Ok(Walked { keys: &keys[..count.into()], lookups })
 }
 
 /// The walk of a key in the machine after a book as a PROV-N document, which is written into `text`.

@@ -1,6 +1,6 @@
 //! The five calls: document 01's example and its marked run W12, and what each refusal leaves.
 
-use tautlichen::{drain, lineage, list, run, walk, Drained, Refusal, KEYS, PROVN, TEXT};
+use tautlichen::{drain, lineage, list, run, walk, Drained, Refusal, Walked, KEYS, PROVN, TEXT};
 
 /// Three stores; actor 0 at home in 0, with 0 and 2; actor 1 at home in 1, with 1 and 2.
 const SETUP: [u8; 6] = [3, 2, 0, 5, 1, 6];
@@ -70,8 +70,8 @@ fn drain_and_walk() {
     assert_eq!(keys, [LENT; KEYS], "a refusal writes nothing");
 
     assert_eq!(drain(&closed(), &mut text).map(|drained| drained.count), Ok(0));
-    assert_eq!(walk(&closed(), 1, &mut keys), Ok(&[1, 0][..]));
-    assert_eq!(walk(&closed(), 0, &mut keys[..1]), Ok(&[0][..]));
+    assert_eq!(walk(&closed(), 1, &mut keys), Ok(Walked { keys: &[1, 0], lookups: 3 }));
+    assert_eq!(walk(&closed(), 0, &mut keys[..1]), Ok(Walked { keys: &[0], lookups: 1 }));
     assert_eq!(keys[2..], [LENT; KEYS - 2], "bytes behind stay");
 }
 

@@ -2,3 +2,4 @@ pub mod Ruled
 pub mod Right
 pub mod Witnesses
 pub mod Wrong
+pub mod Further

@@ -3,50 +3,28 @@ use Prim.Native.Nat.{ℕ, zero, suc, _*_}
 use mathlib.Core.Path.{_≡_, refl, sym, ap, _∙_, subst}
 use mathlib.Core.Bool.{Bool, true, false, _&&_, not}
 use mathlib.Core.List.{List, [], _∷_, _++_}
-use Rattle.protocol.specs.Words.{pick}
-use Rattle.protocol.specs.Setup.{answered}
 use Rattle.protocol.specs.Broken.{brokenOf}
 use Rattle.protocol.specs.declared.State.{State}
 use Rattle.protocol.specs.declared.Setup.{Setup}
 use Rattle.protocol.specs.Outcome.{Outcome}
 use Rattle.unbroken.proofs.Laws.{fresh-unbroken}
-use Rattle.protocol.specs.Rule.{decided}
-use Rattle.protocol.specs.Step.{numberOf, afterOf, ruleOf, stepOf}
+use Rattle.protocol.specs.Step.{ruleOf, stepOf}
 use Rattle.protocol.specs.declared.Step.{Step}
-use Rattle.protocol.specs.declared.Step.the-variants.{Send, Receive, PreCheck, SendRecord, Timeout, TakeRecord, TakeAck, PostCheck, TakeRepair, SendUpdate, TakeUpdate, TakeUack, Expire, Lose, Crash, Restart}
 use Rattle.protocol.specs.Run.{ran, freshOf}
 use Rattle.protocol.specs.Drain.{turnOf, Course, stays, after as behind, onTurn, course}
 use Rattle.protocol.specs.declared.Turn.{Turn}
 use Rattle.protocol.specs.declared.Turn.the-variants.{Take, Rest}
 use Rattle.keeps.proofs.Keeps.{step-keeps}
 use Rattle.drains.specs.Drains.{stepsOf}
-use Rattle.guarantees.specs.Acknowledged.{Legal, after, accepted, acknowledged}
+use Rattle.guarantees.specs.Acknowledged.{Legal, after, acceptedInto, accepted, acknowledged}
 use Rattle.guarantees.proofs.Acks.{run-reached}
 use Rattle.guarantees.proofs.Demand.{fresh-reached}
-use Rattle.bites.specs.Variants.{right, afterBy, stepBy, ranBy, acceptedInto, acceptedBy, acknowledgedBy}
+use Rattle.bites.specs.Variants.{right, stepBy, ranBy, acceptedBy, acknowledgedBy}
 use Rattle.bites.proofs.Ruled.{ruled, ranRuled, ackedRuled, wholeAlong, step-ruled, ran-ruled, acked-ruled}
-
-after-right : (m : State) (s : Step) → afterBy right m s ≡ afterOf m s
-after-right m (Send from to own word causes) = refl
-after-right m (Receive k) = refl
-after-right m (PreCheck a) = refl
-after-right m (SendRecord a) = refl
-after-right m (Timeout a p) = refl
-after-right m (TakeRecord p k r) = refl
-after-right m (TakeAck p k r) = refl
-after-right m (PostCheck a) = refl
-after-right m (TakeRepair k r) = refl
-after-right m (SendUpdate k r) = refl
-after-right m (TakeUpdate p k r) = refl
-after-right m (TakeUack p k r) = refl
-after-right m (Expire k r) = refl
-after-right m (Lose what p k r) = refl
-after-right m (Crash p) = refl
-after-right m (Restart p) = refl
 
 step-right : (m : State) (s : Step) → stepBy right m s ≡ stepOf m s
 unfolding stepBy stepOf ruleOf
-step-right m s = ap (λ (n : State). pick (brokenOf m) (answered 1 m) (decided (numberOf m s) m n)) (after-right m s)
+step-right m s = refl
 
 next-right : (m : State) (s : Step) → stepBy right m s .state ≡ stepOf m s .state
 next-right m s = ap (λ (x : Outcome). x .state) (step-right m s)
@@ -56,27 +34,8 @@ unfolding ranBy ran
 ran-right m [] = refl
 ran-right m (s ∷ ss) = ap (λ (n : State). ranBy right n ss) (next-right m s) ∙ ran-right (stepOf m s .state) ss
 
-into : (m : State) (s : Step) (v : ℕ) → acceptedInto m (stepOf m s .state) s v ≡ accepted m s v
-unfolding acceptedInto accepted
-into m (Send from to own word causes) v = refl
-into m (Receive k) v = refl
-into m (PreCheck a) v = refl
-into m (SendRecord a) v = refl
-into m (Timeout a p) v = refl
-into m (TakeRecord p k r) v = refl
-into m (TakeAck p k r) v = refl
-into m (PostCheck a) v = refl
-into m (TakeRepair k r) v = refl
-into m (SendUpdate k r) v = refl
-into m (TakeUpdate p k r) v = refl
-into m (TakeUack p k r) v = refl
-into m (Expire k r) v = refl
-into m (Lose what p k r) v = refl
-into m (Crash p) v = refl
-into m (Restart p) v = refl
-
 pub accepted-right : (m : State) (s : Step) (v : ℕ) → acceptedBy right m s v ≡ accepted m s v
-accepted-right m s v = ap (λ (n : State). acceptedInto m n s v) (next-right m s) ∙ into m s v
+accepted-right m s v = ap (λ (n : State). acceptedInto m n s v) (next-right m s)
 
 pub acknowledged-right : (m : State) (steps : List Step) (v : ℕ) → acknowledgedBy right m steps v ≡ acknowledged m steps v
 unfolding acknowledgedBy acknowledged
@@ -102,7 +61,7 @@ unfoldable pub courseRuled : ℕ → State → Course
 courseRuled zero m = stays m
 courseRuled (suc n) m = onTurn (turnOf m) (stays m) (λ step. behind step (courseRuled n (ruled right m step)))
 
-course-ruled : (n : ℕ) (m : State) → brokenOf m ≡ false → course n m ≡ courseRuled n m
+pub course-ruled : (n : ℕ) (m : State) → brokenOf m ≡ false → course n m ≡ courseRuled n m
 unfolding course courseRuled
 course-ruled zero m e = refl
 course-ruled (suc n) m e = go (turnOf m) (λ s. course-ruled n (ruled right m s) (unbroken-ruled m s e))
@@ -134,5 +93,5 @@ module _ (u : Setup) (l : Legal u) where
   pub accepted-ruled : (steps : List Step) (s : Step) (v : ℕ) → accepted (after u steps) s v ≡ acceptedInto (ranRuled right (freshOf u) steps) (ruled right (ranRuled right (freshOf u) steps) s) s v
   accepted-ruled steps s v =
       let m = after u steps in
-      sym (into m s v) ∙ ap (λ (n : State). acceptedInto m n s v) (next-ruled m s (run-reached (freshOf u) (fresh-reached u l) steps .fine))
+      ap (λ (n : State). acceptedInto m n s v) (next-ruled m s (run-reached (freshOf u) (fresh-reached u l) steps .fine))
       ∙ ap (λ (n : State). acceptedInto n (ruled right n s) s v) (after-ruled steps)

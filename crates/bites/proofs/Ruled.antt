@@ -13,10 +13,11 @@ use Rattle.unbroken.proofs.Laws.Tests.{and-left, and-right}
 use Rattle.protocol.specs.Rule.{decided}
 use Rattle.protocol.specs.Step.{numberOf}
 use Rattle.protocol.specs.declared.Step.{Step}
-use Rattle.bites.specs.Variants.{Rules, afterBy, stepBy, ranBy, acceptedInto, acknowledgedBy}
+use Rattle.bites.specs.Variants.{Rules, stepBy, ranBy, acknowledgedBy}
+use Rattle.guarantees.specs.Acknowledged.{acceptedInto}
 
 unfoldable pub ruled : Rules → State → Step → State
-ruled rules m s = decided (numberOf m s) m (afterBy rules m s) .state
+ruled rules m s = decided (numberOf m s) m (rules m s) .state
 
 unfoldable pub ranRuled : Rules → State → List Step → State
 ranRuled rules m [] = m
@@ -33,7 +34,7 @@ wholeAlong rules m (s ∷ ss) = not (brokenOf m) && wholeAlong rules (ruled rule
 
 pub step-ruled : (rules : Rules) (m : State) (s : Step) → brokenOf m ≡ false → stepBy rules m s .state ≡ ruled rules m s
 unfolding stepBy ruled
-step-ruled rules m s e = ap (λ (b : Bool). pick b (answered 1 m) (decided (numberOf m s) m (afterBy rules m s)) .state) e
+step-ruled rules m s e = ap (λ (b : Bool). pick b (answered 1 m) (decided (numberOf m s) m (rules m s)) .state) e
 
 module _ (rules : Rules) where
   pub ran-ruled : (m : State) (steps : List Step) → wholeAlong rules m steps ≡ true → ranBy rules m steps ≡ ranRuled rules m steps

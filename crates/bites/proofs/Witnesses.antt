@@ -1,9 +1,10 @@
 -- The premises hold on the witnesses, by computation of their runs without the test for a broken value. Assumes nothing.
-use Prim.Native.Nat.{ℕ}
+use Prim.Native.Nat.{ℕ, _*_, _≤_}
 use native.Mathlib.Omega.{arith}
 use mathlib.Core.Path.{_≡_, refl, ap, _∙_}
 use mathlib.Core.Bool.{true}
 use mathlib.Core.List.{List, [], _∷_, _++_}
+use lib.ListN.{length}
 use Rattle.protocol.specs.Words.{bit, allFrom, table, allBelow}
 use Rattle.protocol.specs.Slots.{number, view, isUp}
 use Rattle.protocol.specs.Setup.{legalActor, legalActors, legal, freshWith}
@@ -28,12 +29,13 @@ use Rattle.protocol.specs.Restart.{restartNo, restarted}
 use Rattle.protocol.specs.declared.Step.{Step}
 use Rattle.protocol.specs.declared.Step.the-variants.{TakeAck}
 use Rattle.protocol.specs.Run.{freshOf}
-use Rattle.protocol.specs.Drain.{lowest, jobStep, entryStep, turnOf, allUp}
+use Rattle.protocol.specs.Drain.{lowest, jobStep, entryStep, turnOf, allUp, drainOf}
 use Rattle.reads.proofs.Example.{example-runs}
-use Rattle.guarantees.specs.Acknowledged.{Legal, after, acknowledged}
+use Rattle.guarantees.proofs.Drained.{the-drain}
+use Rattle.guarantees.specs.Acknowledged.{Legal, after, acceptedInto, acknowledged}
 use Rattle.bites.specs.Setting.{M}
-use Rattle.bites.specs.Witnesses.{W3, W4, movedRecord, W5, W12, stayedReceipt, movedReceipt, downBetween, ackTakenDown, ackTakenThenUp, ackLostThenUp, Closes, Accepts, AcceptsEffect, Witnesses}
-use Rattle.bites.specs.Variants.{right, acceptedInto}
+use Rattle.bites.specs.Witnesses.{W3, W4, movedRecord, W5, W12, stayedReceipt, movedReceipt, downBetween, ackTakenDown, ackTakenThenUp, ackLostThenUp, Closes, Accepts, AcceptsEffect, Witnesses, BoundMet}
+use Rattle.bites.specs.Variants.{right}
 use Rattle.bites.proofs.Ruled.{ruled, ranRuled, ackedRuled}
 use Rattle.bites.proofs.Right.{courseRuled, stepsRuled, after-ruled, accepted-ruled, acknowledged-ruled, steps-ruled}
 
@@ -88,3 +90,14 @@ witnesses =
       afterMove = accepts-effect movedReceipt (TakeAck 1 1 0) 1 1 0 refl refl;
       book = example-runs .refusal;
     }
+
+at-least : (count made n : ℕ) → count ≡ 18 → made ≡ 1 → count ≤ made * n → 18 ≤ n
+at-least count made n c m h = let g : 18 ≤ 1 * n = rw (c, m) at h in omega arith
+
+pub bound-met : BoundMet
+unfolding allFrom table allBelow freshWith causesKnown sendNo sent receiveNo receivedOf preCheckNo preChecked sendRecordNo recordSent timeoutNo timedOut takeRecordNo recordTaken takeAckNo ackTaken postCheckNo postChecked takeRepairNo repairTaken sendUpdateNo updateSent takeUpdateNo updateTaken takeUackNo uackTaken expireNo expired loseNo lost crashNo crashed restartNo restarted lowest jobStep entryStep turnOf ruled ranRuled courseRuled
+bound-met =
+    let up = witnesses .bothMoved .up in
+    let made : after M W3 .made ≡ 1 = ap (λ (m : State). m .made) (after-ruled M legal-M W3) ∙ refl in
+    let count : drainOf (after M W3) .count ≡ 18 = the-drain M legal-M W3 up .count ∙ ap length (steps-ruled M legal-M W3) ∙ refl in
+    record { made = made; count = count; least = λ n f. at-least (drainOf (after M W3) .count) (after M W3 .made) n count made (f M legal-M W3 up) }

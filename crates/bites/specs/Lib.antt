@@ -2,3 +2,4 @@ pub mod Setting
 pub mod Witnesses
 pub mod Variants
 pub mod Wrong
+pub mod Further

@@ -1,12 +1,11 @@
--- Runs by document 01's rules with some of them replaced, and guarantees 3 and 5 said of such runs, word for word.
-use Prim.Native.Nat.{ℕ, _+_, _-_, _<_}
+-- Runs by document 01's rules with some of them replaced, and guarantees 1 to 5 said of such runs, word for word.
+use Prim.Native.Nat.{ℕ, _+_, _-_, _≤_, _<_}
 use mathlib.Core.Path.{_≡_}
-use mathlib.Core.Bool.{true, _&&_, not}
+use mathlib.Core.Bool.{true}
 use mathlib.Core.List.{List, [], _∷_, _++_}
-use lib.Dec.{eqb}
-use lib.ListN.{getD}
+use lib.ListN.{length, getD}
 use Rattle.protocol.specs.Words.{pick, bit}
-use Rattle.protocol.specs.Slots.{number, view, viewlink}
+use Rattle.protocol.specs.Slots.{number, view, lastingViewlink as viewlink}
 use Rattle.protocol.specs.Setup.{answered}
 use Rattle.protocol.specs.Broken.{brokenOf}
 use Rattle.protocol.specs.Closed.{closedOf}
@@ -14,62 +13,23 @@ use Rattle.protocol.specs.declared.State.{State}
 use Rattle.protocol.specs.declared.Setup.{Setup}
 use Rattle.protocol.specs.Outcome.{Outcome}
 use Rattle.protocol.specs.Rule.{decided}
-use Rattle.protocol.specs.Send.{sent}
-use Rattle.protocol.specs.Receive.{receivedOf}
-use Rattle.protocol.specs.PreCheck.{preChecked}
-use Rattle.protocol.specs.SendRecord.{recordSent}
-use Rattle.protocol.specs.Timeout.{timedOut}
-use Rattle.protocol.specs.TakeRecord.{recordTaken}
-use Rattle.protocol.specs.TakeAck.{ackTaken}
-use Rattle.protocol.specs.PostCheck.{postChecked}
-use Rattle.protocol.specs.TakeRepair.{repairTaken}
-use Rattle.protocol.specs.SendUpdate.{updateSent}
-use Rattle.protocol.specs.TakeUpdate.{updateTaken}
-use Rattle.protocol.specs.TakeUack.{uackTaken}
-use Rattle.protocol.specs.Expire.{expired}
-use Rattle.protocol.specs.Lose.{lost}
-use Rattle.protocol.specs.Crash.{crashed}
-use Rattle.protocol.specs.Restart.{restarted}
-use Rattle.protocol.specs.Step.{numberOf}
+use Rattle.protocol.specs.Step.{numberOf, afterOf}
 use Rattle.protocol.specs.declared.Step.{Step}
-use Rattle.protocol.specs.declared.Step.the-variants.{Send, Receive, PreCheck, SendRecord, Timeout, TakeRecord, TakeAck, PostCheck, TakeRepair, SendUpdate, TakeUpdate, TakeUack, Expire, Lose, Crash, Restart}
 use Rattle.protocol.specs.Run.{freshOf}
-use Rattle.guarantees.specs.Acknowledged.{Legal}
+use Rattle.guarantees.specs.Acknowledged.{Legal, acceptedInto}
+use Rattle.guarantees.specs.Guarantees.{Holds}
 
--- the five rules that are easily got wrong, each as the machine that it gives; the other eleven, and what refuses a step, stay
-pub record Rules : Type 0 where
-  pub preCheck : (m : State) (actor : ℕ) → State
-  pub takeRecord : (m : State) (store key role : ℕ) → State
-  pub takeAck : (m : State) (store key role : ℕ) → State
-  pub takeRepair : (m : State) (key role : ℕ) → State
-  pub takeUack : (m : State) (store key role : ℕ) → State
+-- the machine that a taken step gives; what refuses a step stays as document 01 says
+abbrev pub Rules : Type 0
+Rules = State → Step → State
 
 -- document 01's
 abbrev pub right : Rules
-right = record { preCheck = preChecked; takeRecord = recordTaken; takeAck = ackTaken; takeRepair = repairTaken; takeUack = uackTaken }
-
--- as afterOf
-abbrev pub afterBy : Rules → State → Step → State
-afterBy rules m (Send from to own word causes) = sent m from to own word causes
-afterBy rules m (Receive k) = receivedOf m k
-afterBy rules m (PreCheck a) = rules .preCheck m a
-afterBy rules m (SendRecord a) = recordSent m a
-afterBy rules m (Timeout a p) = timedOut m a p
-afterBy rules m (TakeRecord p k r) = rules .takeRecord m p k r
-afterBy rules m (TakeAck p k r) = rules .takeAck m p k r
-afterBy rules m (PostCheck a) = postChecked m a
-afterBy rules m (TakeRepair k r) = rules .takeRepair m k r
-afterBy rules m (SendUpdate k r) = updateSent m k r
-afterBy rules m (TakeUpdate p k r) = updateTaken m p k r
-afterBy rules m (TakeUack p k r) = rules .takeUack m p k r
-afterBy rules m (Expire k r) = expired m k r
-afterBy rules m (Lose what p k r) = lost m what p k r
-afterBy rules m (Crash p) = crashed m p
-afterBy rules m (Restart p) = restarted m p
+right = afterOf
 
 -- as stepOf
 unfoldable pub stepBy : Rules → State → Step → Outcome
-stepBy rules m s = pick (brokenOf m) (answered 1 m) (decided (numberOf m s) m (afterBy rules m s))
+stepBy rules m s = pick (brokenOf m) (answered 1 m) (decided (numberOf m s) m (rules m s))
 
 -- as ran
 unfoldable pub ranBy : Rules → State → List Step → State
@@ -79,27 +39,7 @@ ranBy rules m (step ∷ steps) = ranBy rules (stepBy rules m step .state) steps
 abbrev pub runBy : Rules → Setup → List Step → State
 runBy rules u steps = ranBy rules (freshOf u) steps
 
--- as accepted: the store of this step, if it is a step 7 that moved the view to phase 4
-unfoldable pub acceptedInto : State → State → Step → ℕ → List ℕ
-acceptedInto m next (TakeAck p k r) v =
-    let now = view next v .phase in
-    pick (eqb (number k r) v && not (eqb (view m v .phase) 4) && eqb now 4) (p ∷ []) []
-acceptedInto m next (Send from to own word causes) v = []
-acceptedInto m next (Receive k) v = []
-acceptedInto m next (PreCheck a) v = []
-acceptedInto m next (SendRecord a) v = []
-acceptedInto m next (Timeout a p) v = []
-acceptedInto m next (TakeRecord p k r) v = []
-acceptedInto m next (PostCheck a) v = []
-acceptedInto m next (TakeRepair k r) v = []
-acceptedInto m next (SendUpdate k r) v = []
-acceptedInto m next (TakeUpdate p k r) v = []
-acceptedInto m next (TakeUack p k r) v = []
-acceptedInto m next (Expire k r) v = []
-acceptedInto m next (Lose what p k r) v = []
-acceptedInto m next (Crash p) v = []
-acceptedInto m next (Restart p) v = []
-
+-- as accepted
 abbrev pub acceptedBy : Rules → State → Step → ℕ → List ℕ
 acceptedBy rules m s v = acceptedInto m (stepBy rules m s .state) s v
 
@@ -111,6 +51,16 @@ acknowledgedBy rules m (step ∷ steps) v = acceptedBy rules m step v ++ acknowl
 abbrev pub AckedIn : Rules → Setup → List Step → ℕ → ℕ → Type 0
 AckedIn rules u steps v p = acknowledgedBy rules (freshOf u) steps v ≡ p ∷ []
 
+-- 1. One acknowledgement (at most one), of runs by these rules.
+abbrev pub AtMostOneBy : Rules → Type 0
+AtMostOneBy rules = (u : Setup) → Legal u → (steps : List Step) (v : ℕ) → length (acknowledgedBy rules (freshOf u) steps v) ≤ 1
+
+-- 2. Kept for ever, of runs by these rules.
+abbrev pub KeptForEverBy : Rules → Type 0
+KeptForEverBy rules =
+    (u : Setup) → Legal u → (steps : List Step) (step : Step) (k r p : ℕ) → r < 2 → acceptedBy rules (runBy rules u steps) step (number k r) ≡ p ∷ []
+    → (further : List Step) → Holds (runBy rules u (steps ++ (step ∷ further))) p k r (view (runBy rules u steps) (number k r))
+
 -- 3. Cause links, of runs by these rules.
 abbrev pub CauseLinksBy : Rules → Type 0
 CauseLinksBy rules =
@@ -118,6 +68,12 @@ CauseLinksBy rules =
     → (j : ℕ) → j < 16 → bit (view (runBy rules u steps) (number k 0) .causes) j ≡ true
     → (view (runBy rules u steps) (number j 1) .actor ≡ view (runBy rules u steps) (number k 0) .actor)
     × AckedIn rules u steps (number j 1) (getD (view (runBy rules u steps) (number k 0) .links) j 0)
+
+-- 4. Closed stays closed, of runs by these rules.
+abbrev pub StaysClosedBy : Rules → Type 0
+StaysClosedBy rules =
+    (u : Setup) → Legal u → (steps further : List Step) (k : ℕ) → closedOf (runBy rules u steps) k ≡ true
+    → closedOf (runBy rules u (steps ++ further)) k ≡ true
 
 -- 5. View links, of runs by these rules.
 abbrev pub ViewLinksBy : Rules → Type 0

@@ -1,15 +1,16 @@
 -- The guarantees are not empty: runs on which the premises of each hold, in the words in which it states them.
-use Prim.Native.Nat.{ℕ, _≤_}
+use Prim.Native.Nat.{ℕ, _*_, _≤_}
 use mathlib.Core.Path.{_≡_}
 use mathlib.Core.Bool.{true, false}
 use mathlib.Core.List.{List, [], _∷_, _++_}
 use Rattle.protocol.specs.Words.{bit}
 use Rattle.protocol.specs.Slots.{number, isUp, view}
 use Rattle.protocol.specs.Closed.{closedOf}
+use Rattle.protocol.specs.declared.Setup.{Setup}
 use Rattle.protocol.specs.declared.Step.{Step}
 use Rattle.protocol.specs.declared.Step.the-variants.{Send, Receive, SendRecord, Timeout, TakeRecord, TakeAck, Lose, Crash, Restart}
 use Rattle.protocol.specs.Run.{freshOf, runOf}
-use Rattle.protocol.specs.Drain.{allUp}
+use Rattle.protocol.specs.Drain.{allUp, drainOf}
 use Rattle.reads.specs.Run.{example}
 use Rattle.drains.specs.Drains.{stepsOf}
 use Rattle.guarantees.specs.Acknowledged.{Legal, after, accepted, acknowledged, AckedBy}
@@ -104,3 +105,9 @@ pub record Witnesses : Type 0 where
   pub afterMove : AcceptsEffect movedReceipt (TakeAck 1 1 0) 1 1 0
   -- 8: document 01's example book, with room for its answers, is not refused
   pub book : runOf example 4 .answer ≡ 0
+
+-- The bound of 6 is met, so it can't be lowered: W3 makes one interaction, and its drain takes 18 steps.
+pub record BoundMet : Type 0 where
+  pub made : after M W3 .made ≡ 1
+  pub count : drainOf (after M W3) .count ≡ 18
+  pub least : (n : ℕ) → ((u : Setup) → Legal u → (steps : List Step) → allUp (after u steps) ≡ true → drainOf (after u steps) .count ≤ after u steps .made * n) → 18 ≤ n

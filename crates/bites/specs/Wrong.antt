@@ -10,12 +10,14 @@ use Rattle.protocol.specs.Slots.{number, view, entry, viewlink}
 use Rattle.protocol.specs.Writes.{withView, withEntry, withViewlink}
 use Rattle.protocol.specs.Closed.{closedOf}
 use Rattle.protocol.specs.declared.State.{State}
-use Rattle.protocol.specs.Rule.{head, headView, phased}
-use Rattle.protocol.specs.PreCheck.{preChecked}
+use Rattle.protocol.specs.Views.{phased}
+use Rattle.protocol.specs.Rule.{head, headView}
 use Rattle.protocol.specs.TakeRecord.{recordTaken}
 use Rattle.protocol.specs.TakeAck.{ackedView, ackTaken}
 use Rattle.protocol.specs.TakeRepair.{repairTaken}
 use Rattle.protocol.specs.TakeUack.{finishedEntry, uackTaken}
+use Rattle.protocol.specs.Step.{afterOf}
+use Rattle.protocol.specs.Kinds.{onPreCheck, onTakeRecord, onTakeAck, onTakeRepair, onTakeUack}
 use Rattle.protocol.specs.declared.Step.{Step}
 use Rattle.protocol.specs.declared.Step.the-variants.{Receive, SendRecord, Timeout, TakeRecord, TakeAck, PostCheck, TakeRepair, SendUpdate, TakeUpdate, TakeUack, Lose}
 use Rattle.bites.specs.Setting.{M, S, sends, moves, settles, updates}
@@ -27,7 +29,7 @@ unfoldable pub overwritten : State → ℕ → ℕ → ℕ → State
 overwritten m p k r = withViewlink (recordTaken m p k r) p (number k r) (view m (number k r) .viewlink + 1)
 
 abbrev pub overwriting : Rules
-overwriting = record { preCheck = preChecked; takeRecord = overwritten; takeAck = ackTaken; takeRepair = repairTaken; takeUack = uackTaken }
+overwriting m s = onTakeRecord s (overwritten m) (afterOf m s)
 
 -- The sender's view moves to store 2 and store 1 is told so, before the receiver's record comes there.
 abbrev pub lateRecord : List Step
@@ -38,7 +40,7 @@ unfoldable pub finishedEarly : State → ℕ → ℕ → ℕ → State
 finishedEarly m p k r = let e = entry m (number k r) in withEntry (uackTaken m p k r) (number k r) (finishedEntry (e .destination) e)
 
 abbrev pub finishing : Rules
-finishing = record { preCheck = preChecked; takeRecord = recordTaken; takeAck = ackTaken; takeRepair = repairTaken; takeUack = finishedEarly }
+finishing m s = onTakeUack s (finishedEarly m) (afterOf m s)
 
 -- Store 1 is told that the sender's view moved, then the receiver's view moves too; the uack from 1 comes after the update was
 -- sent on to store 2, and that update is lost.
@@ -52,7 +54,7 @@ unfoldable pub oneRedirected : State → ℕ → ℕ → State
 oneRedirected m k r = let o = number k (1 - r) in withEntry (repairTaken m k r) o (entry m o)
 
 abbrev pub leaving : Rules
-leaving = record { preCheck = preChecked; takeRecord = recordTaken; takeAck = ackTaken; takeRepair = oneRedirected; takeUack = uackTaken }
+leaving m s = onTakeRepair s (oneRedirected m) (afterOf m s)
 
 -- Both views move to store 2, and the update for the receiver's goes to store 1.
 abbrev pub secondRepair : List Step
@@ -65,7 +67,7 @@ unfoldable pub unchecked : State → ℕ → State
 unchecked m a = withView m (head m a) (phased 2 (headView m a))
 
 abbrev pub sendingOnly : Rules
-sendingOnly = record { preCheck = unchecked; takeRecord = recordTaken; takeAck = ackTaken; takeRepair = repairTaken; takeUack = uackTaken }
+sendingOnly m s = onPreCheck s (unchecked m) (afterOf m s)
 
 -- Its run is `movedReceipt`: actor 1 sends an effect of interaction 0, and then its receipt of 0 moves from store 1 to store 2.
 
@@ -74,7 +76,7 @@ unfoldable pub acceptedLate : State → ℕ → ℕ → ℕ → State
 acceptedLate m p k r = let v = number k r in withView (ackTaken m p k r) v (ackedView m (view m v .store) v)
 
 abbrev pub accepting : Rules
-accepting = record { preCheck = preChecked; takeRecord = recordTaken; takeAck = acceptedLate; takeRepair = repairTaken; takeUack = uackTaken }
+accepting m s = onTakeAck s (acceptedLate m) (afterOf m s)
 
 -- The sender times out from store 0 to store 2, the ack comes from store 0, and the record to store 2 is lost.
 abbrev pub leftStore : List Step

@@ -6,3 +6,4 @@ pub mod Entries
 pub mod Spare
 pub mod Turns
 pub mod Courses
+pub mod Applies

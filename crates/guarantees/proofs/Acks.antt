@@ -15,51 +15,33 @@ use Rattle.protocol.specs.declared.State.{State}
 use Rattle.protocol.specs.declared.View.{View}
 use Rattle.protocol.specs.Step.{stepOf}
 use Rattle.protocol.specs.declared.Step.{Step}
-use Rattle.protocol.specs.declared.Step.the-variants.{Send, Receive, PreCheck, SendRecord, Timeout, TakeRecord, TakeAck, PostCheck, TakeRepair, SendUpdate, TakeUpdate, TakeUack, Expire, Lose, Crash, Restart}
+use Rattle.protocol.specs.declared.Step.the-variants.{TakeAck}
+use Rattle.protocol.specs.Kinds.{kind, field}
 use Rattle.protocol.specs.Run.{ran}
-use Rattle.guarantees.specs.Acknowledged.{accepted, acknowledged}
+use Rattle.guarantees.specs.Acknowledged.{acceptedInto, accepted, acknowledged}
 use Rattle.guarantees.proofs.Turns.{Turn, stays, received, checked, sends, moved, acked, settled}
 use Rattle.guarantees.proofs.Reached.{Reached}
 use Rattle.guarantees.proofs.Steps.{Move, turns-to, unmade, step-reached, moves}
 
 -- a step that leaves the view out of phase 4, or found it there, doesn't accept
 not-accepted : (m : State) (s : Step) (v : ℕ) → (view m v .phase ≢ 4 → view (stepOf m s .state) v .phase ≢ 4) → accepted m s v ≡ []
-unfolding accepted
-not-accepted m (TakeAck p k r) v h = go (ℕ-discrete (view m v .phase) 4)
+unfolding acceptedInto
+not-accepted m s v h = go (ℕ-discrete (view m v .phase) 4) (eqb (kind s) 7) (eqb (number (field s 2) (field s 3)) v)
   where
-    now : ℕ
-    now = view (stepOf m (TakeAck p k r) .state) v .phase
+    before : Bool
+    before = eqb (view m v .phase) 4
 
-    falls : (a b : Bool) → pick (a && b && false) (p ∷ []) [] ≡ []
-    falls true true = refl
-    falls true false = refl
-    falls false b = refl
+    now : Bool
+    now = eqb (view (stepOf m s .state) v .phase) 4
 
-    drops : (a b : Bool) → pick (a && false && b) (p ∷ []) [] ≡ []
-    drops true b = refl
-    drops false b = refl
-
-    go : Dec (view m v .phase ≡ 4) → pick (eqb (number k r) v && not (eqb (view m v .phase) 4) && eqb (view (stepOf m (TakeAck p k r) .state) v .phase) 4) (p ∷ []) [] ≡ []
-    go (yes e) = rw (eq-eqb (view m v .phase) 4 e) (drops (eqb (number k r) v) (eqb (view (stepOf m (TakeAck p k r) .state) v .phase) 4))
-    go (no n) = rw (ne-eqb (view (stepOf m (TakeAck p k r) .state) v .phase) 4 (h n)) (falls (eqb (number k r) v) (not (eqb (view m v .phase) 4)))
-not-accepted m (Send from to own word causes) v h = refl
-not-accepted m (Receive k) v h = refl
-not-accepted m (PreCheck a) v h = refl
-not-accepted m (SendRecord a) v h = refl
-not-accepted m (Timeout a p) v h = refl
-not-accepted m (TakeRecord p k r) v h = refl
-not-accepted m (PostCheck a) v h = refl
-not-accepted m (TakeRepair k r) v h = refl
-not-accepted m (SendUpdate k r) v h = refl
-not-accepted m (TakeUpdate p k r) v h = refl
-not-accepted m (TakeUack p k r) v h = refl
-not-accepted m (Expire k r) v h = refl
-not-accepted m (Lose what p k r) v h = refl
-not-accepted m (Crash p) v h = refl
-not-accepted m (Restart p) v h = refl
+    go : Dec (view m v .phase ≡ 4) → (k a : Bool) → pick k (pick (a && not before && now) (field s 1 ∷ []) []) [] ≡ []
+    go d false a = refl
+    go d true false = refl
+    go (yes e) true true = rw (eq-eqb (view m v .phase) 4 e)
+    go (no n) true true = rw (ne-eqb (view m v .phase) 4 n, ne-eqb (view (stepOf m s .state) v .phase) 4 (h n))
 
 is-accepted : (m : State) (p k r v : ℕ) → v ≡ number k r → view m v .phase ≢ 4 → view (stepOf m (TakeAck p k r) .state) v .phase ≡ 4 → accepted m (TakeAck p k r) v ≡ p ∷ []
-unfolding accepted
+unfolding acceptedInto
 is-accepted m p k r v e n h = rw (eq-eqb (number k r) v (sym e), ne-eqb (view m v .phase) 4 n, eq-eqb (view (stepOf m (TakeAck p k r) .state) v .phase) 4 h)
 
 -- what an accepting step was

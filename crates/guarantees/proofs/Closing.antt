@@ -7,7 +7,6 @@ use native.Mathlib.Omega.{arith}
 use native.Mathlib.Decide.{ℕ-discrete}
 use borrow.Author.Tests.{eq-eqb, ne-eqb, eqb-true, eqb-false, not-true}
 use lib.Dec.{eqb}
-use Rattle.protocol.specs.Words.{one}
 use Rattle.protocol.specs.Slots.{number, statusNumber, view, repair, entry, viewlink}
 use Rattle.protocol.specs.Closed.{restsOf, closedOf}
 use Rattle.unbroken.specs.Unbroken.{Unbroken}

@@ -29,7 +29,7 @@ use Rattle.guarantees.proofs.Rules.{Homes}
 use Rattle.guarantees.proofs.Heads.{view-made, stores8}
 use Rattle.guarantees.proofs.Reached.{Reached, Causes}
 use Rattle.guarantees.proofs.Steps.{Move, turns-to, unmade, step-reached, moves}
-use Rattle.guarantees.proofs.Acks.{Ack, past, now, yet, ack, accepting, run-reached, stays-past, comes-to}
+use Rattle.guarantees.proofs.Acks.{Ack, past, now, yet, ack, run-reached, stays-past, comes-to}
 use Rattle.guarantees.proofs.Closing.{Rests, closed-of, accurate}
 
 -- a fresh machine has nothing that could be wrong
@@ -104,12 +104,56 @@ flag : (b : Bool) → one b ≡ 1 → b ≡ true
 flag true e = refl
 flag false e = absurd (let z : ⊥ = omega arith in z)
 
+-- a view past its ack: its store holds what its record says
+pub record There (m : State) (k r p : ℕ) : Type 0 where
+  pub made : k < m .made
+  pub past : 4 ≤ view m (number k r) .phase
+  pub store : view m (number k r) .store ≡ p
+  pub low : p < 8
+  pub held : contents m p (number k r) .held ≡ true
+
+pub there : (m : State) → Reached m → (k r : ℕ) → r < 2 → 4 ≤ view m (number k r) .phase → There m k r (view m (number k r) .store)
+unfolding Everywhere
+there m c k r hr h =
+    let x = unbroken m (c .fine) in
+    let hv : number k r < m .made * 2 = view-made m x (number k r) (omega arith) in
+    let hp : view m (number k r) .store < 8 = omega (arith, stores8 m x, x .storeIn (number k r) (omega (arith, x .made16)) (omega arith)) in
+    record {
+      made = omega arith;
+      past = h;
+      store = refl;
+      low = hp;
+      held = flag (contents m (view m (number k r) .store) (number k r) .held) (everywhere-at k r (view m (number k r) .store) (omega arith) hr hp .keptHeld h refl);
+    }
+  where
+    everywhere-at : (k r p : ℕ) → k < m .made → r < 2 → p < 8 → Here m k r p
+    everywhere-at = c .everywhere
+
 module _ (u : Setup) (l : Legal u) where
   pub reached : (steps : List Step) → Reached (after u steps)
   reached steps = run-reached (freshOf u) (fresh-reached u l) steps
 
-  soon : (steps : List Step) (v : ℕ) → 4 ≤ view (after u steps) v .phase → AckedBy u steps v (view (after u steps) v .store)
+  pub soon : (steps : List Step) (v : ℕ) → 4 ≤ view (after u steps) v .phase → AckedBy u steps v (view (after u steps) v .store)
   soon steps v h = comes-to (freshOf u) (fresh-reached u l) steps v (rw (fresh-phase u l v) (omega arith)) .one h
+
+  -- the store that acknowledged a view is its own, now and after any further steps
+  pub acked-at : (steps : List Step) (k r p : ℕ) → r < 2 → AckedBy u steps (number k r) p → There (after u steps) k r p
+  acked-at steps k r p hr a = go (decLt (view (after u steps) (number k r) .phase) 4)
+    where
+      go : Dec (view (after u steps) (number k r) .phase < 4) → There (after u steps) k r p
+      go (yes h) =
+          let e = comes-to (freshOf u) (fresh-reached u l) steps (number k r) (rw (fresh-phase u l (number k r)) (omega arith)) .none h in
+          absurd (let z : _≡_ {A = ℕ} 1 0 = sym (ap length a) ∙ ap length e in let y : ⊥ = omega arith in y)
+      go (no h) =
+          let g : 4 ≤ view (after u steps) (number k r) .phase = omega arith in
+          subst (There (after u steps) k r) (same-head (view (after u steps) (number k r) .store) p (sym (soon steps (number k r) g) ∙ a)) (there (after u steps) (reached steps) k r hr g)
+
+  pub acked-on : (steps further : List Step) (k r p : ℕ) → r < 2 → AckedBy u steps (number k r) p → There (after u (steps ++ further)) k r p
+  acked-on steps further k r p hr a =
+      let t = acked-at steps k r p hr a in
+      let x = stays-past (after u steps) (reached steps) further (number k r) (t .past) in
+      rw (ran-append (freshOf u) steps further)
+      (subst (There (ran (after u steps) further) k r) (x .store ∙ t .store) (there (ran (after u steps) further) (run-reached (after u steps) (reached steps) further) k r hr (x .phase)))
 
   at-most-one : (steps : List Step) (v : ℕ) → length (acknowledged (freshOf u) steps v) ≤ 1
   at-most-one steps v = go (decLt (view (after u steps) v .phase) 4)

@@ -20,7 +20,7 @@ use Rattle.protocol.specs.declared.Drained.{Drained}
 use Rattle.drains.specs.Drains.{Ends, stepsOf}
 use Rattle.drains.proofs.Courses.{drain-ends}
 use Rattle.guarantees.specs.Acknowledged.{Legal, after}
-use Rattle.guarantees.specs.Guarantees.{TheDrain, BookRun, Books, EveryCall}
+use Rattle.guarantees.specs.Guarantees.{TheDrain, BookRun, Books, EveryCall, AnyCall}
 use Rattle.guarantees.proofs.Heads.{pick-zero}
 use Rattle.guarantees.proofs.Demand.{reached}
 use Rattle.reads.proofs.Some.{ran-append}
@@ -66,14 +66,22 @@ books s room e = go (eqb (bookNo s room) 0) refl
 pub every-call : EveryCall
 every-call =
     record {
-      broken = λ m. only _;
-      empty = only _;
-      setup = λ u. only _;
       status = λ s. only _;
+      legal = λ u. only _;
+      fresh = λ u. only _;
+      empty = only _;
+      broken = λ m. only _;
+      setup = λ u. only _;
       step = λ m s. only _;
-      steps = λ m steps n. only _;
-      run = λ book room. only _;
-      buffer = λ book buffer. only _;
+      steps = λ m steps. only _;
+      answers = λ m steps. only _;
       drain = λ m. only _;
       walk = λ m k. only _;
+      run = λ book room. only _;
+      buffer = λ book buffer. only _;
+      refused = λ n. only _;
+      listing = λ m steps taken. only _;
     }
+
+pub any-call : AnyCall
+any-call A d = only d

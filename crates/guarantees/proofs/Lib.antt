@@ -1,3 +1,4 @@
+pub mod Which
 pub mod Local
 pub mod Whole
 pub mod Touches
@@ -11,5 +12,8 @@ pub mod Steps
 pub mod Acks
 pub mod Closing
 pub mod Demand
+pub mod Lookup
+pub mod Sent
 pub mod Drained
+pub mod Recovery
 pub mod Walking

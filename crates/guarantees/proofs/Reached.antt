@@ -2,44 +2,34 @@
 -- Kept by every step, and true of a fresh machine. Assumes nothing.
 use mathlib.Core.Path.{_≡_, refl, sym, ap, _∙_, subst}
 use mathlib.Core.Logic.{_≢_}
-use mathlib.Core.Bool.{Bool, true, false, not}
+use mathlib.Core.Bool.{true, false}
 use mathlib.Core.List.{List, [], _∷_, _++_}
-use Prim.Native.Nat.{ℕ, _-_, _≤_, _<_}
+use Prim.Native.Nat.{ℕ, _+_, _-_, _≤_, _<_}
 use native.Mathlib.Omega.{arith}
 use native.Mathlib.Decide.{decLt}
-use lib.Dec.{eqb}
 use lib.ListN.{getD, set, length-set}
 use lib.Seq.{getD-set-same, getD-set-other}
-use Rattle.protocol.specs.Words.{pick, bit, one, times}
+use Rattle.protocol.specs.Words.{bit, times}
 use Rattle.protocol.specs.Slots.{number, queue, standing, view, home, noView, noQueue}
-use Rattle.protocol.specs.Writes.{withRecordCopies, withAckCopies, withUpdateCopies, withUackCopies}
 use Rattle.protocol.specs.Broken.{brokenOf}
 use Rattle.unbroken.specs.Unbroken.{Unbroken}
 use Rattle.protocol.specs.declared.State.{State}
 use Rattle.protocol.specs.declared.View.{View}
+use Rattle.protocol.specs.Outcome.{Outcome}
 use Rattle.unbroken.proofs.Laws.{unbroken, bounds}
 use Rattle.unbroken.proofs.Laws.Every.{table-at}
 use Rattle.protocol.specs.Rule.{head}
 use Rattle.protocol.specs.Send.{sendNo, sent, sentView, awaitedView, joined, homeLink, received}
-use Rattle.protocol.specs.Receive.{receivedOf}
-use Rattle.protocol.specs.PreCheck.{preChecked}
-use Rattle.protocol.specs.SendRecord.{recordSent}
-use Rattle.protocol.specs.Timeout.{timedOut}
-use Rattle.protocol.specs.TakeRecord.{recordTaken}
-use Rattle.protocol.specs.TakeAck.{ackTaken}
-use Rattle.protocol.specs.PostCheck.{postChecked}
-use Rattle.protocol.specs.TakeRepair.{repairTaken}
-use Rattle.protocol.specs.SendUpdate.{updateSent}
-use Rattle.protocol.specs.TakeUpdate.{updateTaken}
-use Rattle.protocol.specs.TakeUack.{uackTaken}
-use Rattle.protocol.specs.Expire.{expired}
-use Rattle.protocol.specs.Lose.{lost, copies}
 use Rattle.protocol.specs.Crash.{crashed}
 use Rattle.protocol.specs.Restart.{restarted}
 use Rattle.protocol.specs.Step.{numberOf, afterOf}
 use Rattle.protocol.specs.declared.Step.{Step}
 use Rattle.protocol.specs.declared.Step.the-variants.{Send, Receive, PreCheck, SendRecord, Timeout, TakeRecord, TakeAck, PostCheck, TakeRepair, SendUpdate, TakeUpdate, TakeUack, Expire, Lose, Crash, Restart}
+use Rattle.keeps.specs.Laws.{madeBy}
 use Rattle.keeps.proofs.Conditions.{taken-when}
+use Rattle.keeps.proofs.Laws.{taken-gives, made-counts}
+use Rattle.keeps.proofs.Onward.{step-onward}
+use Rattle.guarantees.proofs.Which.{Kind, a-send, another, kinds}
 use Rattle.guarantees.proofs.Whole.{Everywhere}
 use Rattle.guarantees.proofs.Heads.{actors8}
 use Rattle.guarantees.proofs.Rules.{Homes, here, sends, receives, pre-checks, sends-record, times-out, takes-record, takes-ack, post-checks, takes-repair, sends-update, takes-update, takes-uack, expires, loses, goes-up-or-down}
@@ -58,62 +48,19 @@ pub record Reached (m : State) : Type 0 where
   pub homes : Homes m
   pub causes : Causes m
 
--- a rule leaves the homes, and makes at most one interaction
-frame : (m : State) (s : Step) → (afterOf m s .homes ≡ m .homes) × (m .made ≤ afterOf m s .made)
-unfolding sent receivedOf preChecked recordSent timedOut recordTaken ackTaken postChecked repairTaken updateSent updateTaken uackTaken expired lost crashed restarted
-frame m (Send from to own word causes) = (refl, omega arith)
-frame m (Receive k) = (refl, omega arith)
-frame m (PreCheck a) = (refl, omega arith)
-frame m (SendRecord a) = (refl, omega arith)
-frame m (Timeout a p) = (refl, omega arith)
-frame m (TakeRecord p k r) = (refl, omega arith)
-frame m (TakeAck p k r) = (refl, omega arith)
-frame m (PostCheck a) = (refl, omega arith)
-frame m (TakeRepair k r) = (refl, omega arith)
-frame m (SendUpdate k r) = (refl, omega arith)
-frame m (TakeUpdate p k r) = (refl, omega arith)
-frame m (TakeUack p k r) = (refl, omega arith)
-frame m (Expire k r) = (refl, omega arith)
-frame m (Lose what p k r) = go (copies m what p (number k r) - 1) (eqb what 0) (eqb what 1) (eqb what 2)
-  where
-    go : (n : ℕ) (x y z : Bool) → (pick x (withRecordCopies m p (number k r) n) (pick y (withAckCopies m p (number k r) n) (pick z (withUpdateCopies m p (number k r) n) (withUackCopies m p (number k r) n))) .homes ≡ m .homes)
-        × (m .made ≤ pick x (withRecordCopies m p (number k r) n) (pick y (withAckCopies m p (number k r) n) (pick z (withUpdateCopies m p (number k r) n) (withUackCopies m p (number k r) n))) .made)
-    go n true y z = (refl, omega arith)
-    go n false true z = (refl, omega arith)
-    go n false false true = (refl, omega arith)
-    go n false false false = (refl, omega arith)
-frame m (Crash p) = (refl, omega arith)
-frame m (Restart p) = (refl, omega arith)
-
 -- an interaction after a step is one from before it, or the one that the step sent
 pub data Key (m : State) (s : Step) (k : ℕ) : Type 0 where
   old : k < m .made → Key m s k
   new : (from to own word causes : ℕ) → s ≡ Send from to own word causes → k ≡ m .made → Key m s k
 
 pub key : (m : State) (s : Step) (k : ℕ) → k < afterOf m s .made → Key m s k
-unfolding sent receivedOf preChecked recordSent timedOut recordTaken ackTaken postChecked repairTaken updateSent updateTaken uackTaken expired lost crashed restarted
-key m (Send from to own word causes) k h = elim (decLt k (m .made)) [ yes l ↦ old l | no n ↦ new from to own word causes refl (omega arith) ]
-key m (Receive i) k h = old h
-key m (PreCheck a) k h = old h
-key m (SendRecord a) k h = old h
-key m (Timeout a p) k h = old h
-key m (TakeRecord p i r) k h = old h
-key m (TakeAck p i r) k h = old h
-key m (PostCheck a) k h = old h
-key m (TakeRepair i r) k h = old h
-key m (SendUpdate i r) k h = old h
-key m (TakeUpdate p i r) k h = old h
-key m (TakeUack p i r) k h = old h
-key m (Expire i r) k h = old h
-key m (Lose what p i r) k h = go (copies m what p (number i r) - 1) (eqb what 0) (eqb what 1) (eqb what 2) h
+key m s k h = go (kinds s)
   where
-    go : (n : ℕ) (x y z : Bool) → k < pick x (withRecordCopies m p (number i r) n) (pick y (withAckCopies m p (number i r) n) (pick z (withUpdateCopies m p (number i r) n) (withUackCopies m p (number i r) n))) .made → Key m (Lose what p i r) k
-    go n true y z g = old g
-    go n false true z g = old g
-    go n false false true g = old g
-    go n false false false g = old g
-key m (Crash p) k h = old h
-key m (Restart p) k h = old h
+    go : Kind s → Key m s k
+    go (a-send from to own word causes x) =
+        let g : afterOf m s .made ≡ m .made + 1 = made-counts m s ∙ ap (madeBy m) x in
+        elim (decLt k (m .made)) [ yes l ↦ old l | no n ↦ new from to own word causes x (omega arith) ]
+    go (another e) = let g : afterOf m s .made ≡ m .made = made-counts m s ∙ rw e in old (omega arith)
 
 module _ (m : State) (c : Reached m) where
   u : Unbroken m
@@ -139,8 +86,9 @@ module _ (m : State) (c : Reached m) where
   everywhere-kept (Restart p) e = goes-up-or-down m u (c .everywhere) p true
 
   -- a home is read where it was
-  home-same : (s : Step) (a : ℕ) → home (afterOf m s) a ≡ home m a
-  home-same s a = ap (λ (l : List ℕ). getD l a 0) (frame m s .0)
+  home-same : (s : Step) → numberOf m s ≡ 0 → (a : ℕ) → home (afterOf m s) a ≡ home m a
+  home-same s e a =
+      ap (λ (l : List ℕ). getD l a 0) (ap (λ (o : Outcome). o .state .homes) (sym (taken-gives m s (c .fine) (taken-when m s e))) ∙ step-onward m s .homes)
 
   -- the two views of a new interaction
   pub new-sender : (from to own word causes : ℕ) → m .made < 16 → view (sent m from to own word causes) (number (m .made) 0) ≡ sentView m from to own word causes
@@ -162,14 +110,14 @@ module _ (m : State) (c : Reached m) where
       go (old l) =
           let a = turns m u (number k 0) (omega arith) s e in
           let b = turns m u (number k 1) (omega arith) s e in
-          turn-viewlink a (u .senderMade k l) ∙ homes-at k l ∙ sym (home-same s (view (afterOf m s) (number k 1) .actor) ∙ ap (home m) (turn-actor b))
+          turn-viewlink a (u .senderMade k l) ∙ homes-at k l ∙ sym (home-same s e (view (afterOf m s) (number k 1) .actor) ∙ ap (home m) (turn-actor b))
         where
           homes-at : (i : ℕ) → i < m .made → view m (number i 0) .viewlink ≡ home m (view m (number i 1) .actor)
           homes-at = c .homes
       go (new from to own word causes x y) =
           let t = taken-when m (Send from to own word causes) (rw x at e) in
           subst (λ (z : Step). view (afterOf m z) (number k 0) .viewlink ≡ home (afterOf m z) (view (afterOf m z) (number k 1) .actor)) (sym x)
-          (rw y (ap (λ (w : View). w .viewlink) (new-sender from to own word causes (t .room)) ∙ sym (home-same (Send from to own word causes) _ ∙ ap (λ (w : View). home m (w .actor)) (new-receiver from to own word causes (t .room)))))
+          (rw y (ap (λ (w : View). w .viewlink) (new-sender from to own word causes (t .room)) ∙ sym (home-same (Send from to own word causes) (rw x at e) _ ∙ ap (λ (w : View). home m (w .actor)) (new-receiver from to own word causes (t .room)))))
 
   -- a receipt that has not moved is at its actor's home
   unmoved : (j : ℕ) → j < m .made → 1 ≤ view m (number j 1) .phase → view m (number j 1) .changed ≡ false → view m (number j 1) .store ≡ home m (view m (number j 1) .actor)
@@ -219,7 +167,7 @@ module _ (m : State) (c : Reached m) where
       let r = t .known j hj g in
       let o = other-view from to own word causes j (r .keyIn) in
       let q = new-queue from to own word causes (t .fromIn) (t .room) in
-      rw (y, w, o, home-same (Send from to own word causes) from, q)
+      rw (y, w, o, home-same (Send from to own word causes) e from, q)
       (record {
         actor = r .byActor;
         made = r .received;
@@ -248,7 +196,7 @@ module _ (m : State) (c : Reached m) where
           let g : bit (view m (number k 0) .causes) j ≡ true = rw (sym (turn-causes a (u .senderMade k l))) b in
           let i : j < k = omega (arith, u .causeBelow (number k 0) j (omega (arith, u .made16)) hj g) in
           let q = lines m u (bounds m (c .fine)) (view m (number k 0) .actor) (omega (arith, actors8 m u, u .actorIn (number k 0) (omega arith))) s e in
-          rw (home-same s (view (afterOf m s) (number k 0) .actor), d)
+          rw (home-same s e (view (afterOf m s) (number k 0) .actor), d)
           (keep m u s j k hj l a (turns m u (number j 1) (omega arith) s e) g (unmoved j (omega arith))
           (λ x y. still-ahead (afterOf m s) (number j 1) (number k 0) (view m (number k 0) .actor) q x y) (causes-at k l g))
       go (new from to own word causes x y) =

@@ -1,48 +1,43 @@
--- The guarantee 7: where everything is closed, every link of the walk leads to the record that it is meant for, so the walk of
--- every key is answered; and the causes that the records hold are those that were sent. Assumes nothing.
+-- The guarantee 7: where a key and all that is reached from it are closed, every link of its walk leads to the record that it is
+-- meant for, so the walk is answered; what a walk meets is closed; and the causes that the records hold are those that were sent.
+-- Assumes nothing.
 use mathlib.Core.Path.{_≡_, refl, sym, ap, _∙_, subst}
 use mathlib.Core.Logic.{_≢_}
-use mathlib.Core.Bool.{Bool, true, false, not}
-use mathlib.Core.List.{List, [], _∷_, _++_}
+use mathlib.Core.Bool.{Bool, true, false, _&&_, not}
+use mathlib.Core.List.{List, _++_}
 use Prim.Native.Nat.{ℕ, zero, suc, _+_, _-_, _≤_, _<_}
 use native.Mathlib.Omega.{arith}
 use native.Mathlib.Decide.{ℕ-discrete}
-use borrow.Author.Tests.{eq-eqb, ne-eqb, lt-leb}
+use borrow.Author.Tests.{ne-eqb, lt-leb}
 use lib.Dec.{eqb}
-use lib.ListN.{getD}
-use Rattle.protocol.specs.Words.{pick, bit, one}
-use Rattle.protocol.specs.Slots.{number, view, contents, causeLinks, viewlink, home, queue, standing}
-use Rattle.protocol.specs.Setup.{answered, freshWith}
+use lib.ListN.{getD, take}
+use lib.Seq.{getD-set-other}
+use Rattle.protocol.specs.Words.{pick, bit, one, times}
+use Rattle.protocol.specs.Slots.{number, view, contents, causeLinks, home, queue, standing}
+use Rattle.protocol.specs.Setup.{answered}
 use Rattle.protocol.specs.Closed.{closedOf}
-use Rattle.protocol.specs.Broken.{brokenOf}
 use Rattle.unbroken.specs.Unbroken.{Unbroken}
 use Rattle.protocol.specs.declared.State.{State}
-use Rattle.protocol.specs.declared.View.{View}
 use Rattle.protocol.specs.declared.Setup.{Setup}
-use Rattle.protocol.specs.Outcome.{Outcome}
 use Rattle.unbroken.proofs.Laws.{unbroken}
-use Rattle.protocol.specs.Step.{numberOf, afterOf, ruleOf, stepOf}
 use Rattle.protocol.specs.declared.Step.{Step}
-use Rattle.protocol.specs.declared.Step.the-variants.{Send, Receive, PreCheck, SendRecord, Timeout, TakeRecord, TakeAck, PostCheck, TakeRepair, SendUpdate, TakeUpdate, TakeUack, Expire, Lose, Crash, Restart}
-use Rattle.protocol.specs.Run.{ran, freshOf}
-use Rattle.keeps.specs.Laws.{madeBy}
-use Rattle.keeps.proofs.Conditions.{taken-when}
-use Rattle.keeps.proofs.Laws.{made-counts}
+use Rattle.protocol.specs.Run.{freshOf}
 use Rattle.guarantees.specs.Acknowledged.{Legal, after}
-use Rattle.guarantees.specs.Guarantees.{causesOf, sentCauses, SentCause, SentReach, Drains, TheWalk}
-use Rattle.protocol.specs.Drain.{allUp, drainOf}
+use Rattle.guarantees.specs.Guarantees.{SentCause, SentReach, TheWalk, EveryWalk}
+use Rattle.guarantees.specs.Sent.{sentAs}
 use Rattle.drains.specs.Drains.{stepsOf}
-use Rattle.reaches.specs.Reaches.{Reach, Cause as Cause′}
+use Rattle.reaches.specs.Reaches.{Reach, Cause as Cause′, keysOf}
+use Rattle.reaches.proofs.Keys.{IsMet, none-met, sound-unmet}
+use Rattle.reaches.proofs.Visited.{visited}
 use Rattle.reaches.proofs.Laws.{answered-reaches}
 use Rattle.protocol.specs.declared.Met.{Met}
-use Rattle.protocol.specs.Walk.{added, spoiled, foundOf, causesHeld, receiptOf, hopOf, each, visitOf, unmet, walkedFrom, walkOf}
-use Rattle.guarantees.proofs.Whole.{Everywhere, Here}
-use Rattle.guarantees.proofs.Heads.{stores8, absurd-eq}
-use Rattle.guarantees.proofs.Causes.{Cause, turn-causes}
-use Rattle.guarantees.proofs.Reached.{Reached, Causes, new-sender}
-use Rattle.guarantees.proofs.Steps.{Move, turns-to, unmade, moves, step-reached}
-use Rattle.guarantees.proofs.Demand.{fresh-reached, reached}
+use Rattle.protocol.specs.Walk.{added, spoiled, lookedUp, foundOf, causesHeld, receiptOf, hopOf, each, isDue, toCause, visitOf, unmet, walkedFrom, refusedWalk, walkOf}
+use Rattle.guarantees.proofs.Heads.{and-true, absurd-eq}
+use Rattle.guarantees.proofs.Causes.{Cause}
+use Rattle.guarantees.proofs.Reached.{Reached, Causes}
+use Rattle.guarantees.proofs.Demand.{There, there, reached}
 use Rattle.reads.proofs.Some.{ran-append}
+use Rattle.guarantees.proofs.Sent.{sent-run, told, told-on}
 use Rattle.guarantees.proofs.Drained.{the-drain}
 use Rattle.guarantees.proofs.Closing.{Rests, closed-of, accurate}
 
@@ -50,72 +45,63 @@ flag : (b : Bool) → one b ≡ 1 → b ≡ true
 flag true e = refl
 flag false e = absurd (let z : ⊥ = omega arith in z)
 
--- a visit goes on or stays, unless the record isn't found
-stays-fine : (a b c : Bool) (x y z : Met) → c ≡ true → x .fine ≡ true → y .fine ≡ true → pick a x (pick b x (pick c y z)) .fine ≡ true
-stays-fine true b c x y z e f g = f
-stays-fine false true c x y z e f g = f
-stays-fine false false true x y z e f g = g
-stays-fine false false false x y z e f g = absurd-eq (sym e)
+-- what is picked of two that are fine is fine
+both-fine : (b : Bool) (x y : Met) → x .fine ≡ true → y .fine ≡ true → pick b x y .fine ≡ true
+both-fine true x y f g = f
+both-fine false x y f g = g
 
-module _ (m : State) (c : Reached m) (closed : (k : ℕ) → k < m .made → closedOf m k ≡ true) where
+-- what a walk from a key needs: Q holds of that key and, with a key, of its causes; and every key in Q is there and closed
+record Closing (m : State) (Q : ℕ → Type 0) : Type 0 where
+  made : (k : ℕ) → Q k → k < m .made
+  closed : (k : ℕ) → Q k → closedOf m k ≡ true
+  causes : (k j : ℕ) → Q k → Cause′ m k j → Q j
+
+module _ (m : State) (c : Reached m) (Q : ℕ → Type 0) (z : Closing m Q) where
   u : Unbroken m
   u = unbroken m (c .fine)
-
-  everywhere-at : (k r p : ℕ) → k < m .made → r < 2 → p < 8 → Here m k r p
-  unfolding Everywhere
-  everywhere-at = c .everywhere
 
   causes-at : (k j : ℕ) → k < m .made → j < 16 → bit (view m (number k 0) .causes) j ≡ true
       → Cause (home m (view m (number k 0) .actor)) (standing (queue m (view m (number k 0) .actor))) (number j 1) (number k 0) j (view m (number k 0)) (view m (number j 1))
   unfolding Causes
   causes-at = c .causes
 
-  -- the store of a settled view, and that it holds the view
-  store-8 : (v : ℕ) → v < 32 → view m v .phase ≡ 5 → view m v .store < 8
-  store-8 v h e = omega (arith, stores8 m u, u .storeIn v h (omega arith))
-
-  held : (k r : ℕ) → k < m .made → r < 2 → view m (number k r) .phase ≡ 5 → contents m (view m (number k r) .store) (number k r) .held ≡ true
-  held k r hk hr e =
-      let hv : number k r < 32 = omega (arith, u .made16) in
-      flag (contents m (view m (number k r) .store) (number k r) .held) (everywhere-at k r (view m (number k r) .store) hk hr (store-8 (number k r) hv e) .keptHeld (omega arith) refl)
-
   -- a link that names the store of a settled sender finds its record and its causes
-  link : ℕ → ℕ
-  link k = view m (number k 0) .store + 1
-
-  module _ (k : ℕ) (hk : k < m .made) where
-    rests : Rests m (number k 0) × Rests m (number k 1)
-    rests = closed-of m k (closed k hk)
+  module _ (k : ℕ) (q : Q k) where
+    hk : k < m .made
+    hk = z .made k q
 
     hv : number k 0 < 32
-    hv = omega (arith, u .made16)
+    hv = omega (arith, hk, u .made16)
+
+    rests : Rests m (number k 0) × Rests m (number k 1)
+    rests = closed-of m k (z .closed k q)
+
+    sender : There m k 0 (view m (number k 0) .store)
+    sender = there m c k 0 (omega arith) (omega (arith, rests .0 .phase))
 
     at-store : (view m (number k 0) .store + 1) - 1 ≡ view m (number k 0) .store
     at-store = omega arith
 
     found : foundOf m k (view m (number k 0) .store + 1) ≡ true
     unfolding foundOf
-    found = rw (ne-eqb (view m (number k 0) .store + 1) 0 (λ e. let z : ⊥ = omega arith in z), at-store, held k 0 hk (omega arith) (rests .0 .phase), closed k hk)
+    found = rw (ne-eqb (view m (number k 0) .store + 1) 0 (λ e. let y : ⊥ = omega arith in y), at-store, sender .held, z .closed k q)
 
     causes-held : causesHeld m k (view m (number k 0) .store + 1) ≡ view m (number k 0) .causes
     causes-held =
         ap (λ (p : ℕ). contents m p (number k 0) .causes) at-store
-        ∙ (u .sameCauses (view m (number k 0) .store) (number k 0) (store-8 (number k 0) hv (rests .0 .phase)) hv (held k 0 hk (omega arith) (rests .0 .phase)))
+        ∙ (u .sameCauses (view m (number k 0) .store) (number k 0) (sender .low) hv (sender .held))
 
-    below : (j : ℕ) → j < 16 → bit (view m (number k 0) .causes) j ≡ true → j < k
-    below j hj b = omega (arith, u .causeBelow (number k 0) j hv hj b)
+    cause-in : (j : ℕ) → j < 16 → bit (view m (number k 0) .causes) j ≡ true → Q j
+    cause-in j hj b = z .causes k j q (record { low = hj; set = b })
 
     -- by the cause link to the receipt, by its viewlink to the opposite sender's record
     hop : (j : ℕ) → j < 16 → bit (view m (number k 0) .causes) j ≡ true → hopOf m k (view m (number k 0) .store + 1) j ≡ view m (number j 0) .store + 1
     unfolding hopOf receiptOf
     hop j hj b =
         let p = view m (number k 0) .store in
-        let q = view m (number j 1) .store in
-        let hp = store-8 (number k 0) hv (rests .0 .phase) in
-        let lj : j < m .made = omega (arith, below j hj b) in
-        let r = closed-of m j (closed j lj) in
-        let a : getD (causeLinks m p k) j 0 ≡ q = u .sameLinks p k j hp (omega (arith, u .made16)) hj (held k 0 hk (omega arith) (rests .0 .phase)) ∙ causes-at k j hk hj b .right (omega (arith, rests .0 .phase)) in
-        rw (at-store, a, held j 1 lj (omega arith) (r .1 .phase)) (accurate m u (c .everywhere) j 1 (omega arith) (r .1) (r .0))
+        let r = closed-of m j (z .closed j (cause-in j hj b)) in
+        let a : getD (causeLinks m p k) j 0 ≡ view m (number j 1) .store = u .sameLinks p k j (sender .low) (omega (arith, hk, u .made16)) hj (sender .held) ∙ causes-at k j hk hj b .right (omega (arith, rests .0 .phase)) in
+        rw (at-store, a, there m c j 1 (omega arith) (omega (arith, r .1 .phase)) .held) (accurate m u (c .everywhere) j 1 (omega arith) (r .1) (r .0))
 
   each-fine : (visit : ℕ → Met → Met) (causes n j : ℕ) (w : Met) → ((i : ℕ) (x : Met) → i < j + n → bit causes i ≡ true → x .fine ≡ true → visit i x .fine ≡ true) → w .fine ≡ true → each visit causes n j w .fine ≡ true
   unfolding each
@@ -126,178 +112,177 @@ module _ (m : State) (c : Reached m) (closed : (k : ℕ) → k < m .made → clo
       go true e = f j w (omega arith) e h
       go false e = h
 
-  visit-fine : (depth k : ℕ) (w : Met) → k < m .made → w .fine ≡ true → visitOf depth m k (view m (number k 0) .store + 1) w .fine ≡ true
+  visit-fine : (depth k : ℕ) (w : Met) → Q k → w .fine ≡ true → visitOf depth m k (view m (number k 0) .store + 1) w .fine ≡ true
   unfolding visitOf
-  visit-fine zero k w hk h = h
-  visit-fine (suc depth) k w hk h =
-      stays-fine (not (w .fine)) (getD (w .met) k false) (foundOf m k (view m (number k 0) .store + 1)) w
-      (each (λ j. visitOf depth m j (hopOf m k (view m (number k 0) .store + 1) j)) (causesHeld m k (view m (number k 0) .store + 1)) k 0 (added w k)) (spoiled w)
-      (found k hk) h (onward (λ i x l g. visit-fine depth i x l g))
+  visit-fine zero k w q h = h
+  visit-fine (suc depth) k w q h = rw (found k q) (onward (λ i x l g. visit-fine depth i x l g))
     where
-      onward : ((i : ℕ) (x : Met) → i < m .made → x .fine ≡ true → visitOf depth m i (view m (number i 0) .store + 1) x .fine ≡ true)
-          → each (λ j. visitOf depth m j (hopOf m k (view m (number k 0) .store + 1) j)) (causesHeld m k (view m (number k 0) .store + 1)) k 0 (added w k) .fine ≡ true
+      onward : ((i : ℕ) (x : Met) → Q i → x .fine ≡ true → visitOf depth m i (view m (number i 0) .store + 1) x .fine ≡ true)
+          → each (toCause (visitOf depth m) m k (view m (number k 0) .store + 1)) (causesHeld m k (view m (number k 0) .store + 1)) k 0 (added (lookedUp w) k) .fine ≡ true
       onward f =
-          each-fine (λ j. visitOf depth m j (hopOf m k (view m (number k 0) .store + 1) j)) (causesHeld m k (view m (number k 0) .store + 1)) k 0 (added w k)
+          each-fine (toCause (visitOf depth m) m k (view m (number k 0) .store + 1)) (causesHeld m k (view m (number k 0) .store + 1)) k 0 (added (lookedUp w) k)
           (λ i x l b g.
-          let li : i < 16 = omega (arith, u .made16) in
-          subst (λ (y : ℕ). visitOf depth m i y x .fine ≡ true) (sym (hop k hk i li (subst (λ (s : ℕ). bit s i ≡ true) (causes-held k hk) b))) (f i x (omega arith) g)) h
+          let li : i < 16 = omega (arith, hk k q, u .made16) in
+          let e : bit (view m (number k 0) .causes) i ≡ true = subst (λ (s : ℕ). bit s i ≡ true) (causes-held k q) b in
+          both-fine (isDue x i) (visitOf depth m i (hopOf m k (view m (number k 0) .store + 1) i) (lookedUp x)) x
+          (subst (λ (y : ℕ). visitOf depth m i y (lookedUp x) .fine ≡ true) (sym (hop k q i li e)) (f i (lookedUp x) (cause-in k q i li e) g)) g) h
 
-  pub walk-answered : (k : ℕ) → k < m .made → walkOf m k .answer ≡ 0
+  walk-answered : (k : ℕ) → Q k → walkOf m k .answer ≡ 0
   unfolding walkOf walkedFrom
-  walk-answered k hk = rw (c .fine, lt-leb (m .made) k hk, visit-fine 16 k unmet hk refl)
+  walk-answered k q = rw (c .fine, lt-leb (m .made) k (hk k q), visit-fine 16 k unmet q refl)
 
--- the causes that a record holds are those of its send: a run from m keeps those of its interactions, and adds the later ones
-record Sent (m : State) (steps : List Step) : Type 0 where
-  old : (k : ℕ) → k < m .made → view (ran m steps) (number k 0) .causes ≡ view m (number k 0) .causes
-  new : (k : ℕ) → m .made ≤ k → k < ran m steps .made → getD (sentCauses m steps) (k - m .made) 0 ≡ view (ran m steps) (number k 0) .causes
-  grown : m .made ≤ ran m steps .made
+-- the other way: what a walk meets is closed
+module _ (m : State) where
+  unfoldable MetClosed : Met → Type 0
+  MetClosed w = (i : ℕ) → IsMet w i → closedOf m i ≡ true
 
--- one step: nothing is sent, or a send is taken whose interaction comes next
-data Sending (m : State) (s : Step) : Type 0 where
-  nothing : stepOf m s .state .made ≡ m .made → pick (eqb (stepOf m s .answer) 0) (causesOf s) [] ≡ [] → Sending m s
-  sends : (causes : ℕ) → stepOf m s .state .made ≡ m .made + 1 → pick (eqb (stepOf m s .answer) 0) (causesOf s) [] ≡ causes ∷ []
-      → view (stepOf m s .state) (number (m .made) 0) .causes ≡ causes → Sending m s
-
-none-sent : (s : Step) → causesOf s ≡ [] → (b : Bool) → pick b (causesOf s) [] ≡ []
-none-sent s e true = e
-none-sent s e false = refl
-
-taken-step : (m : State) (s : Step) → brokenOf m ≡ false → numberOf m s ≡ 0 → stepOf m s ≡ answered 0 (afterOf m s)
-unfolding stepOf ruleOf
-taken-step m s b e = rw (b, eq-eqb (numberOf m s) 0 e)
-
-refused-step : (m : State) (s : Step) → brokenOf m ≡ false → numberOf m s ≢ 0 → stepOf m s ≡ answered (numberOf m s) m
-unfolding stepOf ruleOf
-refused-step m s b n = rw (b, ne-eqb (numberOf m s) 0 n)
-
-module _ (m : State) (c : Reached m) where
-  other-kind : (s : Step) → numberOf m s ≡ 0 → causesOf s ≡ [] → madeBy m s ≡ m .made → Sending m s
-  other-kind s e f g =
-      nothing (ap (λ (a : Outcome). a .state .made) (taken-step m s (c .fine) e) ∙ made-counts m s ∙ g) (none-sent s f (eqb (stepOf m s .answer) 0))
-
-  taken : (s : Step) → numberOf m s ≡ 0 → Sending m s
-  taken (Send from to own word causes) e =
-      let x = taken-step m (Send from to own word causes) (c .fine) e in
-      let y = ap (λ (a : Outcome). a .answer) x in
-      sends causes (ap (λ (a : Outcome). a .state .made) x ∙ made-counts m (Send from to own word causes)) (rw (eq-eqb (stepOf m (Send from to own word causes) .answer) 0 y))
-      (ap (λ (a : Outcome). view (a .state) (number (m .made) 0) .causes) x ∙ ap (λ (w : View). w .causes) (new-sender m c from to own word causes (taken-when m (Send from to own word causes) e .room)))
-  taken (Receive k) e = other-kind (Receive k) e refl refl
-  taken (PreCheck a) e = other-kind (PreCheck a) e refl refl
-  taken (SendRecord a) e = other-kind (SendRecord a) e refl refl
-  taken (Timeout a p) e = other-kind (Timeout a p) e refl refl
-  taken (TakeRecord p k r) e = other-kind (TakeRecord p k r) e refl refl
-  taken (TakeAck p k r) e = other-kind (TakeAck p k r) e refl refl
-  taken (PostCheck a) e = other-kind (PostCheck a) e refl refl
-  taken (TakeRepair k r) e = other-kind (TakeRepair k r) e refl refl
-  taken (SendUpdate k r) e = other-kind (SendUpdate k r) e refl refl
-  taken (TakeUpdate p k r) e = other-kind (TakeUpdate p k r) e refl refl
-  taken (TakeUack p k r) e = other-kind (TakeUack p k r) e refl refl
-  taken (Expire k r) e = other-kind (Expire k r) e refl refl
-  taken (Lose what p k r) e = other-kind (Lose what p k r) e refl refl
-  taken (Crash p) e = other-kind (Crash p) e refl refl
-  taken (Restart p) e = other-kind (Restart p) e refl refl
-
-  sending : (s : Step) → Sending m s
-  sending s = go (ℕ-discrete (numberOf m s) 0)
+  each-closed : (visit : ℕ → Met → Met) (causes n j : ℕ) (w : Met) → ((i : ℕ) (x : Met) → MetClosed x → MetClosed (visit i x)) → MetClosed w → MetClosed (each visit causes n j w)
+  unfolding each
+  each-closed visit causes zero j w f h = h
+  each-closed visit causes (suc n) j w f h = each-closed visit causes n (j + 1) (pick (bit causes j) (visit j w) w) f (go (bit causes j))
     where
-      go : Dec (numberOf m s ≡ 0) → Sending m s
-      go (yes e) = taken s e
-      go (no n) =
-          let x = refused-step m s (c .fine) n in
-          let y : stepOf m s .answer ≢ 0 = λ z. n (sym (ap (λ (a : Outcome). a .answer) x) ∙ z) in
-          nothing (ap (λ (a : Outcome). a .state .made) x) (rw (ne-eqb (stepOf m s .answer) 0 y))
+      go : (b : Bool) → MetClosed (pick b (visit j w) w)
+      go true = f j w h
+      go false = h
 
-  -- the causes of an interaction that is there stay
-  causes-stay : (s : Step) (k : ℕ) → k < m .made → view (stepOf m s .state) (number k 0) .causes ≡ view m (number k 0) .causes
-  causes-stay s k h = go (moves m c s (number k 0))
+  added-closed : (k : ℕ) (w : Met) → closedOf m k ≡ true → MetClosed w → MetClosed (added w k)
+  unfolding MetClosed
+  added-closed k w e h i g = go (ℕ-discrete i k)
     where
-      there : 1 ≤ view m (number k 0) .phase
-      there = unbroken m (c .fine) .senderMade k h
+      go : Dec (i ≡ k) → closedOf m i ≡ true
+      go (yes x) = rw x e
+      go (no n) = h i (sym (getD-set-other (w .met) k i true false n) ∙ g)
 
-      go : Move m s (stepOf m s .state) (number k 0) → view (stepOf m s .state) (number k 0) .causes ≡ view m (number k 0) .causes
-      go (turns-to t) = turn-causes t there
-      go (unmade z) = absurd (omega (arith, z .before, there))
+  spoiled-closed : (w : Met) → MetClosed w → MetClosed (spoiled w)
+  unfolding MetClosed
+  spoiled-closed w h = h
 
-front : (b : Bool) (l rest : List ℕ) → pick b (l ++ rest) rest ≡ pick b l [] ++ rest
-front true l rest = refl
-front false l rest = refl
+  looked-closed : (w : Met) → MetClosed w → MetClosed (lookedUp w)
+  unfolding MetClosed
+  looked-closed w h = h
 
-sent-run : (steps : List Step) (m : State) → Reached m → Sent m steps
-unfolding ran sentCauses
-sent-run [] m c = record { old = λ k h. refl; new = λ k h g. absurd (let z : ⊥ = omega arith in z); grown = omega arith }
-sent-run (s ∷ steps) m c = go (sending m c s) (sent-run steps (stepOf m s .state) (step-reached m c s))
-  where
-    n : State
-    n = stepOf m s .state
+  both-closed : (b : Bool) (x y : Met) → MetClosed x → MetClosed y → MetClosed (pick b x y)
+  both-closed true x y f g = f
+  both-closed false x y f g = g
 
-    go : Sending m s → Sent (stepOf m s .state) steps → Sent m (s ∷ steps)
-    go (nothing e f) r =
-        record {
-          old = λ k h. r .old k (omega arith) ∙ causes-stay m c s k h;
-          new = λ k h g.
-              let z : k - m .made ≡ k - stepOf m s .state .made = omega arith in
-              rw (front (eqb (stepOf m s .answer) 0) (causesOf s) (sentCauses (stepOf m s .state) steps), f, z) (r .new k (omega arith) g);
-          grown = omega (arith, r .grown);
-        }
-    go (sends causes e f v) r =
-        record {
-          old = λ k h. r .old k (omega arith) ∙ causes-stay m c s k h;
-          new = λ k h g. rw (front (eqb (stepOf m s .answer) 0) (causesOf s) (sentCauses (stepOf m s .state) steps), f) (at k h g (ℕ-discrete k (m .made)));
-          grown = omega (arith, r .grown);
-        }
-      where
-        at : (k : ℕ) → m .made ≤ k → k < ran (stepOf m s .state) steps .made → Dec (k ≡ m .made) → getD (causes ∷ sentCauses (stepOf m s .state) steps) (k - m .made) 0 ≡ view (ran (stepOf m s .state) steps) (number k 0) .causes
-        at k h g (yes x) =
-            let z : k - m .made ≡ 0 = omega arith in
-            rw z (sym (r .old k (omega arith) ∙ ap (λ (i : ℕ). view (stepOf m s .state) (number i 0) .causes) x ∙ v))
-        at k h g (no x) =
-            let z : k - m .made ≡ suc (k - stepOf m s .state .made) = omega arith in
-            rw z (r .new k (omega arith) g)
+  visit-closed : (depth k link : ℕ) (w : Met) → MetClosed w → MetClosed (visitOf depth m k link w)
+  unfolding visitOf foundOf
+  visit-closed zero k link w h = h
+  visit-closed (suc depth) k link w h = go (foundOf m k link) refl (λ i x g. visit-closed depth i (hopOf m k link i) x g)
+    where
+      go : (d : Bool) → foundOf m k link ≡ d → ((i : ℕ) (x : Met) → MetClosed x → MetClosed (visitOf depth m i (hopOf m k link i) x))
+          → MetClosed (pick d (each (toCause (visitOf depth m) m k link) (causesHeld m k link) k 0 (added (lookedUp w) k)) (spoiled w))
+      go true e f =
+          each-closed (toCause (visitOf depth m) m k link) (causesHeld m k link) k 0 (added (lookedUp w) k)
+          (λ i x g. both-closed (isDue x i) (visitOf depth m i (hopOf m k link i) (lookedUp x)) x (f i (lookedUp x) (looked-closed x g)) g)
+          (added-closed k (lookedUp w) (and-true (not (eqb link 0) && contents m (link - 1) (number k 0) .held) (closedOf m k) e .1) (looked-closed w h))
+      go false e f = spoiled-closed w h
 
-module _ (u : Setup) (l : Legal u) (steps : List Step) (up : allUp (after u steps) ≡ true) where
-  drained : Drains u steps
-  drained = the-drain u l steps up
+  none-closed : MetClosed unmet
+  unfolding MetClosed
+  none-closed i h = absurd-eq (sym h ∙ none-met i)
 
-  -- the drained machine is reached by a run, and everything in it is closed
-  final : Reached (drainOf (after u steps) .state)
-  final = subst Reached (sym (drained .run)) (reached u l (steps ++ stepsOf (after u steps)))
+  -- a key that an answered walk lists is closed
+  walked-closed : Reached m → (k i : ℕ) → k < m .made → walkOf m k .answer ≡ 0 → times i (keysOf (walkOf m k)) ≡ 1 → closedOf m i ≡ true
+  unfolding MetClosed walkOf walkedFrom
+  walked-closed c k i hk e t = visit-closed 16 k (view m (number k 0) .store + 1) unmet none-closed i (met (walkedFrom m k .fine) refl)
+    where
+      u : Unbroken m
+      u = unbroken m (c .fine)
 
-  final-closed : (k : ℕ) → k < drainOf (after u steps) .state .made → closedOf (drainOf (after u steps) .state) k ≡ true
-  final-closed k h = drained .closes k (omega (arith, drained .made))
+      low : k < 16
+      low = omega (arith, u .made16)
 
-  -- what the records of the drained machine hold was sent
-  as-sent : (k : ℕ) → k < after u steps .made → view (drainOf (after u steps) .state) (number k 0) .causes ≡ getD (sentCauses (freshOf u) steps) k 0
-  unfolding freshWith
-  as-sent k h =
-      let z : k - 0 ≡ k = omega arith in
-      let a = sent-run steps (freshOf u) (fresh-reached u l) .new k (omega arith) h in
-      ap (λ (m : State). view m (number k 0) .causes) (drained .run ∙ ran-append (freshOf u) steps (stepsOf (after u steps)))
-      ∙ sent-run (stepsOf (after u steps)) (after u steps) (reached u l steps) .old k h
-      ∙ sym (ap (λ (i : ℕ). getD (sentCauses (freshOf u) steps) i 0) (sym z) ∙ a)
+      listed : times i (take (walkedFrom m k .count) (walkedFrom m k .keys)) ≡ one (getD (walkedFrom m k .met) i false)
+      listed = visited m u 16 k (view m (number k 0) .store + 1) unmet low low sound-unmet (none-met k) .after .sound .listed i
 
-  -- so what is reached over the one is reached over the other
-  to-sent : (k i : ℕ) → k < after u steps .made → Reach (drainOf (after u steps) .state) k i → SentReach u steps k i
+      met : (f : Bool) → walkedFrom m k .fine ≡ f → IsMet (walkedFrom m k) i
+      met true f = flag (getD (walkedFrom m k .met) i false) (sym listed ∙ rw (c .fine, lt-leb (m .made) k hk, f) at t)
+      met false f = absurd (let y : _≡_ {A = ℕ} 13 0 = rw (c .fine, lt-leb (m .made) k hk, f) at e in let x : ⊥ = omega arith in x)
+
+  walk-13 : Reached m → (k : ℕ) → k < m .made → walkOf m k .answer ≢ 0 → walkOf m k .answer ≡ 13
+  unfolding walkOf
+  walk-13 c k hk n = rw (c .fine, lt-leb (m .made) k hk) (go (walkedFrom m k .fine) refl)
+    where
+      go : (f : Bool) → walkedFrom m k .fine ≡ f → pick f (record { answer = 0; keys = walkedFrom m k .keys; count = walkedFrom m k .count; lookups = walkedFrom m k .lookups }) (refusedWalk 13) .answer ≡ 13
+      go true f = absurd (n (rw (c .fine, lt-leb (m .made) k hk, f)))
+      go false f = refl
+
+-- what is reached over the records' causes is what is reached over those that were sent
+module _ (u : Setup) (l : Legal u) (steps : List Step) where
+  x : Unbroken (after u steps)
+  x = unbroken (after u steps) (reached u l steps .fine)
+
+  sent-set : (k j : ℕ) → k < after u steps .made → SentCause u steps k j → Cause′ (after u steps) k j
+  sent-set k j h s = record { low = s .low; set = rw (told u l steps k h .causes) (s .set) }
+
+  set-sent : (k j : ℕ) → k < after u steps .made → Cause′ (after u steps) k j → SentCause u steps k j
+  set-sent k j h s = record { low = s .low; set = rw (← told u l steps k h .causes) (s .set) }
+
+  lower : (k j : ℕ) → k < after u steps .made → Cause′ (after u steps) k j → j < after u steps .made
+  lower k j h s = omega (arith, x .causeBelow (number k 0) j (omega (arith, x .made16)) (s .low) (s .set))
+
+  to-sent : (k i : ℕ) → k < after u steps .made → Reach (after u steps) k i → SentReach u steps k i
   to-sent k i h Reach.here = SentReach.here
-  to-sent k i h (Reach.by {j = j} c r) =
-      let b : j < k = omega (arith, unbroken (drainOf (after u steps) .state) (final .fine) .causeBelow (number k 0) j (omega (arith, unbroken (after u steps) (reached u l steps .fine) .made16)) (c .low) (c .set)) in
-      let d : SentCause u steps k j = record { low = c .low; set = rw (← as-sent k h) (c .set) } in
-      SentReach.by d (to-sent j i (omega arith) r)
+  to-sent k i h (Reach.by {j = j} s r) = SentReach.by (set-sent k j h s) (to-sent j i (lower k j h s) r)
 
-  of-sent : (k i : ℕ) → k < after u steps .made → SentReach u steps k i → Reach (drainOf (after u steps) .state) k i
+  of-sent : (k i : ℕ) → k < after u steps .made → SentReach u steps k i → Reach (after u steps) k i
   of-sent k i h SentReach.here = Reach.here
-  of-sent k i h (SentReach.by {j = j} c r) =
-      let d : Cause′ (drainOf (after u steps) .state) k j = record { low = c .low; set = rw (as-sent k h) (c .set) } in
-      let b : j < k = omega (arith, unbroken (drainOf (after u steps) .state) (final .fine) .causeBelow (number k 0) j (omega (arith, unbroken (after u steps) (reached u l steps .fine) .made16)) (c .low) (d .set)) in
-      Reach.by d (of-sent j i (omega arith) r)
+  of-sent k i h (SentReach.by {j = j} s r) = let d = sent-set k j h s in Reach.by d (of-sent j i (lower k j h d) r)
+
+  reach-made : (k i : ℕ) → k < after u steps .made → Reach (after u steps) k i → i < after u steps .made
+  reach-made k i h Reach.here = h
+  reach-made k i h (Reach.by {j = j} s r) = reach-made j i (lower k j h s) r
+
+reach-more : (m : State) (k i j : ℕ) → Reach m k i → Cause′ m i j → Reach m k j
+reach-more m k i j Reach.here s = Reach.by s Reach.here
+reach-more m k i j (Reach.by {j = n} t r) s = Reach.by t (reach-more m n i j r s)
+
+pub every-walk : EveryWalk
+every-walk u l steps k h =
+    let m = after u steps in
+    let c = reached u l steps in
+    record {
+      answered = λ f. walk-answered m c (Reach m k)
+          (record { made = λ i r. reach-made u l steps k i h r; closed = λ i r. f i (to-sent u l steps k i h r); causes = λ i j r s. reach-more m k i j r s }) k Reach.here;
+      closed = λ e i r. walked-closed m c k i h e (answered-reaches m k (walkOf m k) refl e .once i (of-sent u l steps k i h r));
+      refused = walk-13 m c k h;
+      once = λ e i r. answered-reaches m k (walkOf m k) refl e .once i (of-sent u l steps k i h r);
+      only = λ e i t. to-sent u l steps k i h (answered-reaches m k (walkOf m k) refl e .only i t);
+    }
+
+-- more steps send nothing anew of the interactions that are there
+module _ (u : Setup) (l : Legal u) (steps further : List Step) where
+  same-causes : (k : ℕ) → k < after u steps .made → sentAs u (steps ++ further) k .causes ≡ sentAs u steps k .causes
+  same-causes k h = sym (told u l (steps ++ further) k (grown k h) .causes) ∙ told-on u l steps further k h .causes
+    where
+      grown : (k : ℕ) → k < after u steps .made → k < after u (steps ++ further) .made
+      grown k h = rw (ran-append (freshOf u) steps further) (omega (arith, sent-run further (after u steps) (reached u l steps) .grown))
+
+  below : (k j : ℕ) → k < after u steps .made → SentCause u steps k j → j < after u steps .made
+  below k j h s = lower u l steps k j h (sent-set u l steps k j h s)
+
+  reach-on : (k i : ℕ) → k < after u steps .made → SentReach u steps k i → SentReach u (steps ++ further) k i
+  reach-on k i h SentReach.here = SentReach.here
+  reach-on k i h (SentReach.by {j = j} s r) =
+      let d : SentCause u (steps ++ further) k j = record { low = s .low; set = rw (same-causes k h) (s .set) } in
+      SentReach.by d (reach-on j i (below k j h s) r)
+
+  reach-off : (k i : ℕ) → k < after u steps .made → SentReach u (steps ++ further) k i → SentReach u steps k i
+  reach-off k i h SentReach.here = SentReach.here
+  reach-off k i h (SentReach.by {j = j} s r) =
+      let d : SentCause u steps k j = record { low = s .low; set = rw (← same-causes k h) (s .set) } in
+      SentReach.by d (reach-off j i (below k j h d) r)
 
 pub the-walk : TheWalk
 the-walk u l steps up k h =
-    let m = drainOf (after u steps) .state in
-    let f = final u l steps up in
-    let a = walk-answered m f (final-closed u l steps up) k (omega (arith, the-drain u l steps up .made)) in
-    let r = answered-reaches m k (walkOf m k) refl a in
+    let d = the-drain u l steps up in
+    let more = stepsOf (after u steps) in
+    let made : after u (steps ++ more) .made ≡ after u steps .made = ap (λ (m : State). m .made) (sym (d .run)) ∙ d .made in
+    let w = every-walk u l (steps ++ more) k (omega arith) in
+    let a = w .answered (λ i r. ap (λ (m : State). closedOf m i) (sym (d .run)) ∙ d .closes i (reach-made u l steps k i h (of-sent u l steps k i h (reach-off u l steps more k i h r)))) in
     record {
-      answered = a;
-      once = λ i s. r .once i (of-sent u l steps up k i h s);
-      only = λ i t. to-sent u l steps up k i h (r .only i t);
+      answered = subst (λ (m : State). walkOf m k .answer ≡ 0) (sym (d .run)) a;
+      once = λ i r. subst (λ (m : State). times i (keysOf (walkOf m k)) ≡ 1) (sym (d .run)) (w .once a i (reach-on u l steps more k i h r));
+      only = λ i t. reach-off u l steps more k i h (w .only a i (subst (λ (m : State). 1 ≤ times i (keysOf (walkOf m k))) (d .run) t));
     }

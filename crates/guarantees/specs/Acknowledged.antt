@@ -11,7 +11,7 @@ use Rattle.protocol.specs.declared.State.{State}
 use Rattle.protocol.specs.declared.Setup.{Setup}
 use Rattle.protocol.specs.Step.{stepOf}
 use Rattle.protocol.specs.declared.Step.{Step}
-use Rattle.protocol.specs.declared.Step.the-variants.{Send, Receive, PreCheck, SendRecord, Timeout, TakeRecord, TakeAck, PostCheck, TakeRepair, SendUpdate, TakeUpdate, TakeUack, Expire, Lose, Crash, Restart}
+use Rattle.protocol.specs.Kinds.{onTakeAck}
 use Rattle.protocol.specs.Run.{ran, legalSetup, freshOf}
 
 -- a legal setup, with a row for each of eight actors
@@ -25,26 +25,13 @@ abbrev pub after : Setup → List Step → State
 after u steps = ran (freshOf u) steps
 
 -- The store that acknowledged a view is the one whose ack moved that view to phase 4 in step 7:
--- the store of this step if it did so, else none
-unfoldable pub accepted : State → Step → ℕ → List ℕ
-accepted m (TakeAck p k r) v =
-    let now = view (stepOf m (TakeAck p k r) .state) v .phase in
-    pick (eqb (number k r) v && not (eqb (view m v .phase) 4) && eqb now 4) (p ∷ []) []
-accepted m (Send from to own word causes) v = []
-accepted m (Receive k) v = []
-accepted m (PreCheck a) v = []
-accepted m (SendRecord a) v = []
-accepted m (Timeout a p) v = []
-accepted m (TakeRecord p k r) v = []
-accepted m (PostCheck a) v = []
-accepted m (TakeRepair k r) v = []
-accepted m (SendUpdate k r) v = []
-accepted m (TakeUpdate p k r) v = []
-accepted m (TakeUack p k r) v = []
-accepted m (Expire k r) v = []
-accepted m (Lose what p k r) v = []
-accepted m (Crash p) v = []
-accepted m (Restart p) v = []
+-- the store of this step, which made next of m, if it did so, else none
+unfoldable pub acceptedInto : State → State → Step → ℕ → List ℕ
+acceptedInto m next s v =
+    onTakeAck s (λ p k r. pick (eqb (number k r) v && not (eqb (view m v .phase) 4) && eqb (view next v .phase) 4) (p ∷ []) []) []
+
+abbrev pub accepted : State → Step → ℕ → List ℕ
+accepted m s v = acceptedInto m (stepOf m s .state) s v
 
 -- all the stores that acknowledged a view in a run, in order
 unfoldable pub acknowledged : State → List Step → ℕ → List ℕ

@@ -63,13 +63,13 @@ or-splits {a} {b} x y =
     }
 
 -- a test that refuses where its fact doesn't hold
-unless : {b : Bool} {P : Type 0} → Says b P → Splits (not b) (P → ⊥) P
+pub unless : {b : Bool} {P : Type 0} → Says b P → Splits (not b) (P → ⊥) P
 unless s = not-splits (un-splits s)
 
 inside : (x count : ℕ) → Splits (outside x count) (count ≤ x) (x < count)
 inside x count = le-splits count x
 
-head-says : (n : ℕ) (m : State) (a : ℕ) → Says (headIn n m a) ((1 ≤ queue m a .len) × (headView m a .phase ≡ n))
+pub head-says : (n : ℕ) (m : State) (a : ℕ) → Says (headIn n m a) ((1 ≤ queue m a .len) × (headView m a .phase ≡ n))
 head-says n m a = and-says (not-says (zero-splits (queue m a .len))) (eq-says (headView m a .phase) n)
 
 -- the heads of 3, 4 and 8
@@ -79,7 +79,7 @@ head-zero n m a =
     (λ x. record { actorIn = x .0; queued = x .1 .0 .0; headPhase = x .1 .0 .1 })
     (λ s. (s .actorIn, ((s .queued, s .headPhase), tt)))
 
-to-send : (s : Status) → statusNumber s ≡ 1 → s ≡ ToSend
+pub to-send : (s : Status) → statusNumber s ≡ 1 → s ≡ ToSend
 to-send Nothing e = absurd (omega arith)
 to-send ToSend e = refl
 to-send Waiting e = absurd (omega arith)
@@ -108,7 +108,7 @@ module _ (m : State) where
   of-place p k r s = ((s .storeIn, s .keyIn), s .roleIn)
 
   -- 1
-  received-says : (a j : ℕ) → Says (received m a j) (ReceivedBy m a j)
+  pub received-says : (a j : ℕ) → Says (received m a j) (ReceivedBy m a j)
   received-says a j =
       put-says (and-says (and-says (lt-says j (m .made)) (not-says (zero-splits (view m (number j 1) .phase)))) (eq-says (view m (number j 1) .actor) a))
       (λ x. record { keyIn = x .0 .0; received = x .0 .1; byActor = x .1 })
@@ -117,7 +117,7 @@ module _ (m : State) where
   cause-says : (a causes j : ℕ) → Says (causeKnown m a causes j) (bit causes j ≡ true → ReceivedBy m a j)
   cause-says a causes j = or-says (not-splits (is-splits (bit causes j))) (received-says a j)
 
-  causes-say : (a causes : ℕ) → Says (causesKnown m a causes) ((j : ℕ) → j < 16 → bit causes j ≡ true → ReceivedBy m a j)
+  pub causes-say : (a causes : ℕ) → Says (causesKnown m a causes) ((j : ℕ) → j < 16 → bit causes j ≡ true → ReceivedBy m a j)
   unfolding causesKnown
   causes-say a causes =
       record {

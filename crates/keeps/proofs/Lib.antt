@@ -17,3 +17,4 @@ pub mod Changes
 pub mod Keeps
 pub mod Onward
 pub mod Laws
+pub mod Applies

@@ -17,7 +17,8 @@ use Rattle.protocol.specs.Receive.{receivedOf}
 use Rattle.protocol.specs.TakeRecord.{recordTaken}
 use Rattle.protocol.specs.Step.{numberOf, afterOf, ruleOf, stepOf}
 use Rattle.protocol.specs.declared.Step.{Step}
-use Rattle.protocol.specs.declared.Step.the-variants.{Send, Receive, PreCheck, SendRecord, Timeout, TakeRecord, TakeAck, PostCheck, TakeRepair, SendUpdate, TakeUpdate, TakeUack, Expire, Lose, Crash, Restart}
+use Rattle.protocol.specs.Kinds.{onSend}
+use Rattle.protocol.specs.declared.Step.the-variants.{Crash, Restart}
 use Rattle.keeps.specs.Taken.{SendTaken, ReceiveTaken, TakeRecordTaken, Taken}
 
 -- of an unbroken machine, a step is taken exactly when its condition holds
@@ -50,22 +51,7 @@ JointSame = (m : State) (s : Step) → brokenOf m ≡ false → stepOf m s ≡ r
 
 -- how many interactions there are after a step: a send makes one, no other kind does
 abbrev pub madeBy : State → Step → ℕ
-madeBy m (Send from to own word causes) = m .made + 1
-madeBy m (Receive k) = m .made
-madeBy m (PreCheck a) = m .made
-madeBy m (SendRecord a) = m .made
-madeBy m (Timeout a p) = m .made
-madeBy m (TakeRecord p k r) = m .made
-madeBy m (TakeAck p k r) = m .made
-madeBy m (PostCheck a) = m .made
-madeBy m (TakeRepair k r) = m .made
-madeBy m (SendUpdate k r) = m .made
-madeBy m (TakeUpdate p k r) = m .made
-madeBy m (TakeUack p k r) = m .made
-madeBy m (Expire k r) = m .made
-madeBy m (Lose what p k r) = m .made
-madeBy m (Crash p) = m .made
-madeBy m (Restart p) = m .made
+madeBy m s = onSend s (λ from to own word causes. m .made + 1) (m .made)
 
 abbrev pub MadeCounts : Type 0
 MadeCounts = (m : State) (s : Step) → afterOf m s .made ≡ madeBy m s

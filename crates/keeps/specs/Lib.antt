@@ -3,3 +3,4 @@ pub mod Keeps
 pub mod Change
 pub mod Onward
 pub mod Laws
+pub mod Applies

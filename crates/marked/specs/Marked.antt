@@ -1,12 +1,13 @@
 -- The twelve marked runs of document 01 as one table, over the definitions that the contracts cite.
 use Prim.Native.Nat.{ℕ, _+_}
 use mathlib.Core.Path.{_≡_}
-use mathlib.Core.Bool.{Bool, true, false, _&&_}
+use mathlib.Core.Bool.{Bool, true, false, _&&_, not}
 use mathlib.Core.List.{List, [], _∷_, _++_}
 use lib.Dec.{eqb}
 use lib.ListN.{take, replicate}
 use Rattle.protocol.specs.Slots.{number, view, contents, viewlink}
 use Rattle.protocol.specs.Setup.{setupOf}
+use Rattle.protocol.specs.Broken.{brokenOf}
 use Rattle.protocol.specs.declared.State.{State}
 use Rattle.protocol.specs.declared.Setup.{Setup}
 use Rattle.protocol.specs.Step.{stepOf}
@@ -24,9 +25,10 @@ infix 20 _⇒_
 abbrev pub _⇒_ : Step → ℕ → Asked
 s ⇒ n = record { step = s; answer = n }
 
--- what may be said of a machine: a view's phase and current store; that a store has a view, and the viewlink beside it;
--- a walk's refusal, and a walk's keys
+-- what may be said of a machine: that it is the empty one; a view's phase and current store; that a store has a view, and the
+-- viewlink beside it; a walk's refusal, and a walk's keys
 pub data Fact : Type 0 where
+  empty : Fact
   phase : (key role n : ℕ) → Fact
   at : (key role store : ℕ) → Fact
   has : (store key role link : ℕ) → Fact
@@ -90,8 +92,8 @@ rows =
     ∷ onM (replicate 16 (S ⇒ 0) ++ (S ⇒ 4) ∷ (Send 0 0 0 7 0 ⇒ 3) ∷ []) [] rests
     -- W10 crash twice: 0, 5. Restart twice: 0, 6.
     ∷ onM ((Crash 0 ⇒ 0) ∷ (Crash 0 ⇒ 5) ∷ (Restart 0 ⇒ 0) ∷ (Restart 0 ⇒ 6) ∷ []) [] rests
-    -- W11 list 1 for actor 0: 11.
-    ∷ record { setup = setupWith 1; answer = 11; steps = []; facts = []; next = rests }
+    -- W11 list 1 for actor 0: 11, with the empty machine.
+    ∷ record { setup = setupWith 1; answer = 11; steps = []; facts = empty ∷ []; next = rests }
     -- W12 S, receive, 1 sends to 0 own 1 cause 0. Walk of 1: 13. Drain: 21. Walk of 1: 1, 0. Walk of 2: 2.
     ∷ onM
     ((S ⇒ 0) ∷ (Receive 0 ⇒ 0) ∷ (Send 1 0 1 7 1 ⇒ 0) ∷ [])
@@ -105,9 +107,14 @@ same [] (y ∷ ys) = false
 same (x ∷ xs) [] = false
 same (x ∷ xs) (y ∷ ys) = eqb x y && same xs ys
 
+-- no stores, actors or interactions, and so nothing in any slot, since it isn't broken
+abbrev pub isEmpty : State → Bool
+isEmpty m = eqb (m .stores) 0 && eqb (m .actors) 0 && eqb (m .made) 0 && not (brokenOf m)
+
 -- whether a fact holds of a machine
 unfoldable pub holds : State → Fact → Bool
 unfolding same
+holds m empty = isEmpty m
 holds m (phase k r n) = eqb (view m (number k r) .phase) n
 holds m (at k r p) = eqb (view m (number k r) .store) p
 holds m (has p k r q) = contents m p (number k r) .held && eqb (viewlink m p (number k r)) (q + 1)

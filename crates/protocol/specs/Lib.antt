@@ -1,6 +1,7 @@
 pub mod Numbers
 pub mod Words
 pub mod Outcome
+pub mod Views
 pub mod Slots
 pub mod Writes
 pub mod Setup
@@ -24,6 +25,7 @@ pub mod Lose
 pub mod Crash
 pub mod Restart
 pub mod Step
+pub mod Kinds
 pub mod Steps
 pub mod Book
 pub mod Write

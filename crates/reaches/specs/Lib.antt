@@ -1,2 +1,3 @@
 pub mod Tally
 pub mod Reaches
+pub mod Applies

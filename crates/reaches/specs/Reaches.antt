@@ -1,5 +1,5 @@
 -- What the promise of the walk means: it has one result, the keys are those that are reached over the causes, and a refusal has none.
-use Prim.Native.Nat.{ℕ, _≤_, _<_}
+use Prim.Native.Nat.{ℕ, _*_, _-_, _≤_, _<_}
 use mathlib.Core.Path.{_≡_}
 use mathlib.Core.Logic.{_≢_}
 use mathlib.Core.Bool.{true}
@@ -37,6 +37,10 @@ AnsweredReaches = (m : State) (k : ℕ) (r : Walked) → r ≡ walkOf m k → r 
 abbrev pub KeysFew : Type 0
 KeysFew = (m : State) (k : ℕ) (r : Walked) → r ≡ walkOf m k → r .count ≤ 16
 
--- a refused walk has no keys
+-- a refused walk has no keys, and reports no lookups
 abbrev pub RefusedEmpty : Type 0
-RefusedEmpty = (m : State) (k : ℕ) (r : Walked) → r ≡ walkOf m k → r .answer ≢ 0 → (r .keys ≡ replicate 16 0) × (r .count ≡ 0)
+RefusedEmpty = (m : State) (k : ℕ) (r : Walked) → r ≡ walkOf m k → r .answer ≢ 0 → (r .keys ≡ replicate 16 0) × (r .count ≡ 0) × (r .lookups ≡ 0)
+
+-- document 02, K6: a walk that answers m keys has looked up exactly 2m - 1 store entries
+abbrev pub LookupsExactly : Type 0
+LookupsExactly = (m : State) (k : ℕ) (r : Walked) → r ≡ walkOf m k → r .answer ≡ 0 → r .lookups ≡ 2 * r .count - 1

@@ -8,7 +8,7 @@ use native.Mathlib.Omega.{arith}
 use native.Mathlib.Numerals.{add-one}
 use native.Mathlib.Nat.{add-assoc}
 use lib.Dec.{leb, ltb, eqb}
-use lib.ListN.{length, drop, length-append, List·getD-eq-default}
+use lib.ListN.{length, drop, List·getD-eq-default}
 use lib.Seq.{drop-cons, drop-length}
 use lib.Pow.{areBytes}
 use borrow.Author.Tests.{ltb-true, ltb-false, leb-false, eqb-false, eqb-true}
@@ -19,19 +19,20 @@ use Rattle.protocol.specs.declared.Read.the-variants.{Got, Bad}
 use Rattle.protocol.specs.Book.{byte, low16, widths, widthOf, repairMade, shortMade, stepMade, readStep, onRead, validFrom, stepsFrom, homeRead, listRead, actorsRead, startOf, countOf, wellFormed, readingOf}
 use Rattle.protocol.specs.Run.{stepsRead}
 use Rattle.protocol.specs.Write.{written, writtenSteps, writtenRows, writtenBook}
+use Rattle.unbroken.proofs.Laws.Every.{length-table}
 use Rattle.reads.proofs.Formed.{valid-all, start-fits, count-steps}
 use Rattle.reads.specs.Reading.{ReadsAlike, WritesAgain, OneReading}
 
 pub reads-alike : ReadsAlike
 reads-alike s t e = ap readingOf e
 
-byte-low : (s : List ℕ) → areBytes s ≡ true → (i : ℕ) → byte s i < 256
+pub byte-low : (s : List ℕ) → areBytes s ≡ true → (i : ℕ) → byte s i < 256
 byte-low [] h i = omega arith
 byte-low (b ∷ s) h zero = ltb-true b 256 (and-eq-true-iff (ltb b 256) (areBytes s) .0 h .0)
 byte-low (b ∷ s) h (suc i) = byte-low s (and-eq-true-iff (ltb b 256) (areBytes s) .0 h .1) i
 
 -- n bytes from i
-abbrev from : List ℕ → ℕ → ℕ → List ℕ
+abbrev pub from : List ℕ → ℕ → ℕ → List ℕ
 from s i zero = []
 from s i (suc n) = byte s i ∷ from s (i + 1) n
 
@@ -101,7 +102,7 @@ module _ (s : List ℕ) (bs : areBytes s ≡ true) (i : ℕ) where
       = λ x f j k. f _ _ _ _ (byte-low s bs j) (byte-low s bs (j + 1)) (byte-low s bs k) (byte-low s bs (k + 1)) in
       rw (w _ d0 (i + 3) (i + 3 + 2), w _ d1 (i + 3) (i + 3 + 2), w _ d2 (i + 3) (i + 3 + 2), w _ d3 (i + 3) (i + 3 + 2), w _ c0 (i + 7) (i + 7), w _ c1 (i + 7) (i + 7)) (simp add-assoc)
 
-  step-same : (k : ℕ) → (widthOf k ≡ 0 → ⊥) → Same k
+  pub step-same : (k : ℕ) → (widthOf k ≡ 0 → ⊥) → Same k
   unfolding stepMade shortMade repairMade widthOf
   step-same k h =
       each Same 1 15
@@ -109,12 +110,12 @@ module _ (s : List ℕ) (bs : areBytes s ≡ true) (i : ℕ) where
       k (kind-low k h .0) (kind-low k h .1)
 
 -- what a step that was read says of the bytes
-record Found (s : List ℕ) (at : ℕ) (step : Step) (behind : ℕ) : Type 0 where
-  here : at < length s
-  wide : widthOf (byte s at) ≡ 0 → ⊥
-  fits : at + widthOf (byte s at) < length s
-  made : stepMade s (byte s at) (at + 1) ≡ step
-  next : behind ≡ at + 1 + widthOf (byte s at)
+pub record Found (s : List ℕ) (at : ℕ) (step : Step) (behind : ℕ) : Type 0 where
+  pub here : at < length s
+  pub wide : widthOf (byte s at) ≡ 0 → ⊥
+  pub fits : at + widthOf (byte s at) < length s
+  pub made : stepMade s (byte s at) (at + 1) ≡ step
+  pub next : behind ≡ at + 1 + widthOf (byte s at)
 
 picked : (P : Type 0) (b₁ b₂ b₃ : Bool) (x step : Step) (y c : ℕ) → (b₁ ≡ false → b₂ ≡ false → b₃ ≡ false → x ≡ step → y ≡ c → P)
     → pick b₁ Bad (pick (b₂ || b₃) Bad (Got x y)) ≡ Got step c → P
@@ -123,7 +124,7 @@ picked P false true b₃ x step y c f e = let z : _≡_ {A = ℕ} 0 1 = cc in le
 picked P false false true x step y c f e = let z : _≡_ {A = ℕ} 0 1 = cc in let w : ⊥ = omega arith in absurd w
 picked P false false false x step y c f e = f refl refl refl (cc) (cc)
 
-found : (s : List ℕ) (at : ℕ) (step : Step) (behind : ℕ) → readStep s at ≡ Got step behind → Found s at step behind
+pub found : (s : List ℕ) (at : ℕ) (step : Step) (behind : ℕ) → readStep s at ≡ Got step behind → Found s at step behind
 unfolding readStep
 found s at step behind e =
     let k : ℕ = byte s at in
@@ -153,11 +154,6 @@ steps-again s bs zero at e = ap (λ (k : ℕ). drop k s) (eqb-true at (length s)
 steps-again s bs (suc n) at e = again-on s bs n at (readStep s at) refl (steps-again s bs n) e
 
 -- the rows, one more at a time
-length-table : (f : ℕ → ℕ) (n : ℕ) → length (table f n) ≡ n
-unfolding table
-length-table f zero = refl
-length-table f (suc n) = simp length-append (omega (arith, length-table f n))
-
 rows-snoc : (xs ys : List ℕ) (x y : ℕ) → length xs ≡ length ys → writtenRows (xs ++ (x ∷ [])) (ys ++ (y ∷ [])) ≡ writtenRows xs ys ++ (x ∷ y ∷ [])
 unfolding writtenRows
 rows-snoc [] [] x y e = refl

@@ -1,22 +1,23 @@
 -- A run folds the steps, and its answers are those of the fold, by induction over the steps that are read. Assumes nothing.
 use Prim.Native.Nat.{ℕ, _+_, _-_, _≤_}
 use mathlib.Core.Path.{_≡_, refl, sym, ap, _∙_}
-use mathlib.Core.Bool.{Bool, true, false, not}
+use mathlib.Core.Logic.{_≢_}
+use mathlib.Core.Bool.{Bool, true, false}
 use mathlib.Core.List.{List, [], _∷_, _++_, append-assoc}
 use native.Mathlib.Omega.{arith}
 use lib.Dec.{eqb}
 use lib.ListN.{length, getD, take, drop}
 use lib.Seq.{getD-at, getD-append-add, getD-drop, take-at}
-use borrow.Author.Tests.{ne-eqb}
 use Rattle.protocol.specs.Words.{pick, times}
 use Rattle.protocol.specs.Setup.{setupOf}
 use Rattle.protocol.specs.declared.State.{State}
 use Rattle.protocol.specs.Step.{stepOf}
 use Rattle.protocol.specs.declared.Step.{Step}
 use Rattle.protocol.specs.Book.{setupRead, readingOf}
-use Rattle.protocol.specs.Run.{ran, answers, stepsRead, freshOf, bookNo, runOf, filled, bufferOf}
+use Rattle.protocol.specs.declared.Ran.{Ran}
+use Rattle.protocol.specs.Run.{ran, answers, stepsRead, freshOf, bookNo, refusedRun, fullRun, runOf, filled, bufferOf}
 use Rattle.reads.proofs.Formed.{answers-length, accepted, legal-machine}
-use Rattle.reads.specs.Run.{next, folded, RunFolds, AnswersFold, BehindStay, RefusalWritesNothing, TakenAreZeros, OneResult}
+use Rattle.reads.specs.Run.{next, folded, RunFolds, AnswersFold, BehindStay, RefusedBook, TakenAreZeros, OneResult}
 
 -- a run that is not refused starts from the machine of its setup
 starts : (s : List ℕ) (room : ℕ) → bookNo s room ≡ 0 → setupOf (setupRead s) .state ≡ freshOf (setupRead s)
@@ -66,9 +67,21 @@ behind-stay s buffer i h = go (eqb (bookNo s (length buffer)) 0)
     go true = filled-behind (freshOf (setupRead s)) (stepsRead s) buffer i h
     go false = refl
 
-pub refusal-writes-nothing : RefusalWritesNothing
-unfolding bufferOf
-refusal-writes-nothing s buffer h = simp (ne-eqb _ 0 h)
+-- what the book's number gives
+module _ (s buffer : List ℕ) where
+  abbrev given : Bool → Ran
+  given taken = pick taken (fullRun (freshOf (setupRead s)) (stepsRead s)) (refusedRun (bookNo s (length buffer)))
+
+  abbrev left : Bool → List ℕ
+  left taken = pick taken (filled (freshOf (setupRead s)) (stepsRead s) buffer) buffer
+
+  gives-nothing : (taken : Bool) → given taken .answer ≢ 0 → (given taken ≡ refusedRun (given taken .answer)) × (left taken ≡ buffer)
+  gives-nothing true n = absurd (n refl)
+  gives-nothing false n = (refl, refl)
+
+pub refused-book : RefusedBook
+unfolding runOf bufferOf
+refused-book s buffer n = let x = gives-nothing s buffer (eqb (bookNo s (length buffer)) 0) n in record { result = x .0; stays = x .1 }
 
 taken-filled : (m : State) (steps : List Step) (buffer : List ℕ) → times 0 (answers m steps) ≡ times 0 (take (length steps) (filled m steps buffer))
 unfolding filled

@@ -4,3 +4,7 @@ pub mod Formed
 pub mod Fold
 pub mod Example
 pub mod Again
+pub mod Written
+pub mod Range
+pub mod Both
+pub mod Applies

@@ -1,18 +1,18 @@
 -- A run is the fold of the steps, its promise leaves one result, and programs that do less are shut out.
-use Prim.Native.Nat.{ℕ, _≤_}
+use Prim.Native.Nat.{ℕ, _+_, _≤_, _<_}
 use mathlib.Core.Path.{_≡_}
 use mathlib.Core.Logic.{_≢_}
 use mathlib.Core.List.{List, [], _∷_, _++_}
 use lib.ListN.{length, getD, take}
 use Rattle.protocol.specs.Words.{times}
-use Rattle.protocol.specs.Setup.{setupOf}
-use Rattle.protocol.specs.Slots.{number, view}
+use Rattle.protocol.specs.Setup.{emptyMachine, setupOf}
 use Rattle.protocol.specs.declared.State.{State}
 use Rattle.protocol.specs.declared.Step.{Step}
 use Rattle.protocol.specs.Step.{stepOf}
 use Rattle.protocol.specs.declared.Ran.{Ran}
 use Rattle.protocol.specs.Book.{setupRead, readingOf}
 use Rattle.protocol.specs.Run.{bookNo, runOf, bufferOf}
+use Rattle.protocol.specs.Listing.{listingOf}
 
 -- the machine after a step, and after one step after another, from the left
 abbrev pub next : State → Step → State
@@ -37,13 +37,10 @@ AnswersFold =
     → readingOf s .steps ≡ before ++ (step ∷ behind)
     → getD (bufferOf s buffer) (length before) 0 ≡ stepOf (after s before) step .answer
 
--- Bytes behind the steps stay, and so do all where the book is refused.
+-- Bytes behind the steps stay.
 abbrev pub BehindStay : Type 0
 BehindStay =
     (s buffer : List ℕ) (i : ℕ) → length (readingOf s .steps) ≤ i → getD (bufferOf s buffer) i 0 ≡ getD buffer i 0
-
-abbrev pub RefusalWritesNothing : Type 0
-RefusalWritesNothing = (s buffer : List ℕ) → bookNo s (length buffer) ≢ 0 → bufferOf s buffer ≡ buffer
 
 -- The count taken is the number of zeros among the answers.
 abbrev pub TakenAreZeros : Type 0
@@ -66,46 +63,86 @@ abbrev pub example : List ℕ
 example =
     3 ∷ 2 ∷ 0 ∷ 5 ∷ 1 ∷ 6 ∷ 3 ∷ 0 ∷ 1 ∷ 0 ∷ 1 ∷ 0 ∷ 7 ∷ 0 ∷ 0 ∷ 0 ∷ 0 ∷ 0 ∷ 2 ∷ 0 ∷ 5 ∷ 0 ∷ 2 ∷ []
 
--- what document 01 lists of a run: stores, actors, interactions, steps, steps taken; and of a view: key, role, phase, current store
-abbrev pub counts : Ran → List ℕ
-counts r = r .state .stores ∷ r .state .actors ∷ r .state .made ∷ r .steps ∷ r .taken ∷ []
+-- its listing: `3 2 1 3 2`, `0 0 1 0 -` and `0 1 1 1 -`, a line each
+abbrev pub exampleLines : List ℕ
+exampleLines =
+    51 ∷ 32 ∷ 50 ∷ 32 ∷ 49 ∷ 32 ∷ 51 ∷ 32 ∷ 50 ∷ 10
+    ∷ 48 ∷ 32 ∷ 48 ∷ 32 ∷ 49 ∷ 32 ∷ 48 ∷ 32 ∷ 45 ∷ 10
+    ∷ 48 ∷ 32 ∷ 49 ∷ 32 ∷ 49 ∷ 32 ∷ 49 ∷ 32 ∷ 45 ∷ 10 ∷ []
 
-abbrev pub viewAt : Ran → ℕ → ℕ → List ℕ
-viewAt r key role = key ∷ role ∷ view (r .state) (number key role) .phase ∷ view (r .state) (number key role) .store ∷ []
+-- what document 01 lists of a run
+abbrev pub listed : Ran → List ℕ
+listed r = listingOf (r .state) (r .steps) (r .taken)
 
 -- its answers are 0, 0, 7, and the byte behind them stays
 pub record ExampleRuns : Type 0 where
   pub refusal : runOf example 4 .answer ≡ 0
-  pub total : counts (runOf example 4) ≡ 3 ∷ 2 ∷ 1 ∷ 3 ∷ 2 ∷ []
-  pub sender : viewAt (runOf example 4) 0 0 ≡ 0 ∷ 0 ∷ 1 ∷ 0 ∷ []
-  pub receiver : viewAt (runOf example 4) 0 1 ≡ 0 ∷ 1 ∷ 1 ∷ 1 ∷ []
+  pub listing : listed (runOf example 4) ≡ exampleLines
   pub answered : bufferOf example (9 ∷ 9 ∷ 9 ∷ 9 ∷ []) ≡ 0 ∷ 0 ∷ 7 ∷ 9 ∷ []
 
--- a program that is said to run every book, and how it would do less
+-- A refused book returns the empty machine, runs no step, and writes nothing.
+pub record Refused (s buffer : List ℕ) : Type 0 where
+  pub result : runOf s (length buffer) ≡ record { state = emptyMachine; answer = runOf s (length buffer) .answer; steps = 0; taken = 0 }
+  pub stays : bufferOf s buffer ≡ buffer
+
+abbrev pub RefusedBook : Type 0
+RefusedBook = (s buffer : List ℕ) → runOf s (length buffer) .answer ≢ 0 → Refused s buffer
+
+-- a program that is said to run every book: its result, and the buffer at its exit
+pub record Shown : Type 0 where
+  pub result : Ran
+  pub exit : List ℕ
+
 abbrev pub Program : Type 0
-Program = List ℕ → ℕ → Ran
+Program = (s buffer : List ℕ) → Shown
 
 abbrev pub Meets : Program → Type 0
-Meets f = (s : List ℕ) (room : ℕ) → f s room ≡ runOf s room
+Meets f = (s buffer : List ℕ) → Promised s buffer (f s buffer .result) (f s buffer .exit)
 
+-- how it would do less: it refuses everything
 abbrev pub RefusesAll : Program → Type 0
-RefusesAll f = (s : List ℕ) (room : ℕ) → f s room .answer ≢ 0
+RefusesAll f = (s buffer : List ℕ) → f s buffer .result .answer ≢ 0
 
-abbrev pub Constant : Program → Type 0
-Constant f = (s t : List ℕ) (room : ℕ) → f s room ≡ f t room
+-- it answers every book alike, or every step of a book that it runs
+abbrev pub AnswersAlike : Program → Type 0
+AnswersAlike f = (s t buffer : List ℕ) → f s buffer .result .answer ≡ f t buffer .result .answer
 
+abbrev pub AnswersStepsAlike : Program → Type 0
+AnswersStepsAlike f =
+    (s buffer : List ℕ) (i j : ℕ) → f s buffer .result .answer ≡ 0 → i < length (readingOf s .steps) → j < length (readingOf s .steps)
+    → getD (f s buffer .exit) i 0 ≡ getD (f s buffer .exit) j 0
+
+-- it says taken and changes nothing
 abbrev pub ChangesNothing : Program → Type 0
-ChangesNothing f = (s : List ℕ) (room : ℕ) → f s room .answer ≡ 0 → f s room .state ≡ after s []
+ChangesNothing f = (s buffer : List ℕ) → f s buffer .result .answer ≡ 0 → f s buffer .result .state ≡ after s []
 
--- whatever it pretends of the rest
-abbrev pub FirstStepOnly : Program → Type 0
-FirstStepOnly f =
-    (s : List ℕ) (room : ℕ) (first : Step) (rest : List Step) → f s room .answer ≡ 0
-    → readingOf s .steps ≡ first ∷ rest → f s room .state ≡ after s (first ∷ [])
+-- it runs the first step: its machine is the one after that step, whatever it pretends of the rest; or no other answer is written
+abbrev pub OfBooks : (List ℕ → List ℕ → Step → List Step → Type 0) → Program → Type 0
+OfBooks P f =
+    (s buffer : List ℕ) (first : Step) (rest : List Step) → f s buffer .result .answer ≡ 0
+    → readingOf s .steps ≡ first ∷ rest → P s buffer first rest
 
--- The four idle programs are shut out.
+abbrev pub FirstMachine : Program → Type 0
+FirstMachine f = OfBooks (λ s buffer first rest. f s buffer .result .state ≡ after s (first ∷ [])) f
+
+abbrev pub FirstAnswer : Program → Type 0
+FirstAnswer f = OfBooks (λ s buffer first rest. (i : ℕ) → 1 ≤ i → getD (f s buffer .exit) i 0 ≡ getD buffer i 0) f
+
+-- .. or it pretends the other answers, each from its own step and the machine after the first, since it runs none of them
+abbrev pub PretendsAnswers : (State → Step → ℕ) → Program → Type 0
+PretendsAnswers pretend f =
+    OfBooks
+    (λ s buffer first rest.
+    (before : List Step) (step : Step) (behind : List Step) → rest ≡ before ++ (step ∷ behind)
+    → getD (f s buffer .exit) (length before + 1) 0 ≡ pretend (after s (first ∷ [])) step)
+    f
+
+-- The four idle programs are shut out, the second and the last in each of their forms.
 pub record IdleShutOut : Type 0 where
   pub refusing : (f : Program) → RefusesAll f → Meets f → ⊥
-  pub constant : (f : Program) → Constant f → Meets f → ⊥
+  pub constant : (f : Program) → AnswersAlike f → Meets f → ⊥
+  pub constantSteps : (f : Program) → AnswersStepsAlike f → Meets f → ⊥
   pub unchanging : (f : Program) → ChangesNothing f → Meets f → ⊥
-  pub pretending : (f : Program) → FirstStepOnly f → Meets f → ⊥
+  pub firstMachine : (f : Program) → FirstMachine f → Meets f → ⊥
+  pub firstAnswer : (f : Program) → FirstAnswer f → Meets f → ⊥
+  pub pretending : (f : Program) (pretend : State → Step → ℕ) → PretendsAnswers pretend f → Meets f → ⊥

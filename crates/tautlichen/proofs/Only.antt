@@ -21,6 +21,7 @@ every-export =
       drain-count = λ book text count. determined _ _ _;
       walk-keys = λ book key keys. determined _ _ _;
       walk-count = λ book key keys count. determined _ _ _;
+      walk-lookups = λ book key keys lookups. determined _ _ _;
       lineage-text = λ book key text. determined _ _ _;
       lineage-len = λ book key text len. determined _ _ _;
     }

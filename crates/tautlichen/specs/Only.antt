@@ -25,5 +25,6 @@ pub record EveryExport : Type 0 where
   pub drain-count : (book text : List ℕ) (count : ℕ) → Determined (drainNo book text) (drainAfter book .count) count
   pub walk-keys : (book : List ℕ) (key : ℕ) (keys : List ℕ) → Determined (walkNo book key keys) (over (keysOf (walkAfter book key)) keys) keys
   pub walk-count : (book : List ℕ) (key : ℕ) (keys : List ℕ) (count : ℕ) → Determined (walkNo book key keys) (walkAfter book key .count) count
+  pub walk-lookups : (book : List ℕ) (key : ℕ) (keys : List ℕ) (lookups : ℕ) → Determined (walkNo book key keys) (walkAfter book key .lookups) lookups
   pub lineage-text : (book : List ℕ) (key : ℕ) (text : List ℕ) → Determined (lineageNo book key text) (over (lineageText book key) text) text
   pub lineage-len : (book : List ℕ) (key : ℕ) (text : List ℕ) (len : ℕ) → Determined (lineageNo book key text) (length (lineageText book key)) len

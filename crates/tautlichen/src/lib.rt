@@ -123,10 +123,17 @@ pub extern "C" fn tautlichen_drain(
 
 // Walks back from a key in the machine after a book: the keys met, and how many. Refused with 10, 11, then 2, 13, then 14.
 #[no_mangle]
-pub extern "C" fn tautlichen_walk(book: &[u8], key: u8, keys: &mut [u8], count: &mut u8) -> u8
+pub extern "C" fn tautlichen_walk(
+    book: &[u8],
+    key: u8,
+    keys: &mut [u8],
+    count: &mut u8,
+    lookups: &mut u8,
+) -> u8
     ensures number { λ r. ⌜ r ≡ walkNo (now (book .entry)) key (now (keys .entry)) ⌝ }
     ensures keys { λ r. ⌜ now (keys .exit) ≡ lent r (over (keysOf (walkAfter (now (book .entry)) key)) (now (keys .entry))) (now (keys .entry)) ⌝ }
     ensures count { λ r. ⌜ now (count .exit) ≡ lent r (walkAfter (now (book .entry)) key .count) (now (count .entry)) ⌝ }
+    ensures lookups { λ r. ⌜ now (lookups .exit) ≡ lent r (walkAfter (now (book .entry)) key .lookups) (now (lookups .entry)) ⌝ }
 {
     let ran = after(book);
     if ran.answer != 0 {
@@ -143,6 +150,7 @@ pub extern "C" fn tautlichen_walk(book: &[u8], key: u8, keys: &mut [u8], count: 
         return no;
     }
     *count = walked.count;
+    *lookups = walked.lookups;
     0
 }
 

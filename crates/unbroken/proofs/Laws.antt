@@ -1,18 +1,21 @@
 -- The laws of the machine value: what a machine that is not broken has, the bounds that a rule needs, the fresh and the empty
--- machine, and that a promise has one result. Assumes nothing.
+-- machine, that a promise has one result, and which number is the lowest that applies. Assumes nothing.
 pub mod Tests
 pub mod Every
 pub mod Says
+pub mod Lowest
 pub mod SlotTests
+pub mod Applies
 pub mod Whole
 pub mod Unbroken
 pub mod Counting
 pub mod Room
 pub mod Bits
 pub mod Fresh
+pub mod Empty
 pub mod Only
 pub use Whole.{slots, slots-whole}
 pub use Unbroken.{unbroken, whole, of-slots, to-slots}
 pub use Room.{bounds}
 pub use Fresh.{fresh-unbroken, empty-unbroken, fresh-blank, empty-blank, fresh-setup}
-pub use Only.{only, only-broken, only-setup, only-empty, only-status}
+pub use Only.{only}

@@ -1,11 +1,14 @@
 -- A machine with nothing made, nothing in flight and nothing held: blank beyond its setup.
 use Prim.Native.Nat.{ℕ, _<_}
 use mathlib.Core.Path.{_≡_}
+use mathlib.Core.Bool.{false}
 use lib.Dec.{ltb}
 use lib.ListN.{replicate}
 use Rattle.protocol.specs.Slots.{noMessage, noRepair, noEntry, noContents, isUp, queue, message, view, repair, entry}
 use Rattle.protocol.specs.Slots.{recordCopies, ackCopies, updateCopies, uackCopies, contents, causeLinks, viewlink}
-use Rattle.protocol.specs.Setup.{blankView, blankQueue}
+use Rattle.protocol.specs.Views.{blankView}
+use Rattle.protocol.specs.Setup.{blankQueue, emptyMachine}
+use Rattle.protocol.specs.Broken.{brokenOf}
 use Rattle.protocol.specs.declared.State.{State}
 
 pub record Blank (m : State) : Type 0 where
@@ -23,3 +26,7 @@ pub record Blank (m : State) : Type 0 where
   pub held : (p v : ℕ) → p < 8 → v < 32 → contents m p v ≡ noContents
   pub links : (p k : ℕ) → p < 8 → k < 16 → causeLinks m p k ≡ replicate 16 0
   pub viewlinks : (p v : ℕ) → p < 8 → v < 32 → viewlink m p v ≡ 0
+
+-- a machine that isn't broken and has no stores, actors or interactions is the empty machine
+abbrev pub OneEmpty : Type 0
+OneEmpty = (m : State) → brokenOf m ≡ false → m .stores ≡ 0 → m .actors ≡ 0 → m .made ≡ 0 → m ≡ emptyMachine

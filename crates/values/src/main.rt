@@ -1,25 +1,16 @@
-// The test for a broken value, run on values made by hand: for each clause of document 01's list values that
-// this clause alone makes broken, and their unbroken neighbours. A line is a name, then 1 for broken or 0.
-mod blanks;
-mod contents;
-mod flight;
-mod made;
-mod names;
-mod numbers;
-mod pairs;
-mod queues;
-mod setups;
-mod tell;
-mod unbroken;
+// Values that no run reaches, made by hand slot by slot from the table on standard input, whose head gives its
+// form. Each case is printed in a line: its name, and what the calls answer.
+mod ask;
+mod change;
+mod print;
+mod row;
+mod step;
+mod table;
+
+use libc::STDIN_FILENO;
 
 fn main() {
-    setups::lines();
-    numbers::lines();
-    blanks::lines();
-    names::lines();
-    contents::lines();
-    pairs::lines();
-    flight::lines();
-    queues::lines();
-    unbroken::lines();
+    let mut input = [0u8; 32768];
+    let n = io::read_full(STDIN_FILENO, &mut input);
+    table::read(&input[..n]);
 }

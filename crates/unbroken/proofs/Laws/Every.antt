@@ -1,7 +1,7 @@
 -- A test of every place of a list, and a list made place by place, by the index. Assumes nothing.
 use Prim.Native.Nat.{ℕ, zero, suc, _+_, _<_}
 use mathlib.Core.Path.{_≡_, refl, sym, ap, subst, _∙_}
-use mathlib.Core.Bool.{Bool, true}
+use mathlib.Core.Bool.{Bool, true, false, false≢true}
 use mathlib.Core.List.{List, [], _∷_, _++_}
 use native.Mathlib.Omega.{arith}
 use native.Mathlib.Nat.{add-zero}
@@ -9,7 +9,7 @@ use native.Mathlib.Decide.{decLt}
 use lib.ListN.{length, getD, length-append, List·getD-append}
 use lib.Seq.{getD-append-seam}
 use Rattle.protocol.specs.Words.{allFrom, all, table, allBelow}
-use Rattle.unbroken.proofs.Laws.Tests.{and-left, and-right, and-both}
+use Rattle.unbroken.proofs.Laws.Tests.{and-left, and-right, and-both, by-test}
 
 from-at : {A : Type 0} (p : ℕ → A → Bool) (i : ℕ) (l : List A) (d : A) → allFrom p i l ≡ true → (j : ℕ) → j < length l → p (i + j) (getD l j d) ≡ true
 unfolding allFrom
@@ -45,6 +45,15 @@ pub below-each : (n : ℕ) (p : ℕ → Bool) → ((j : ℕ) → j < n → p j �
 unfolding allBelow
 below-each zero p f = refl
 below-each (suc n) p f = and-both (allBelow n p) (p n) (below-each n p (λ j h. f j (omega arith))) (f n (omega arith))
+
+-- one of 0, 1, .., n - 1 of which a test fails
+pub below-fails : (n : ℕ) (p : ℕ → Bool) → allBelow n p ≡ false → (j : ℕ) × (j < n) × (p j ≡ false)
+unfolding allBelow
+below-fails zero p e = absurd (false≢true (sym e))
+below-fails (suc n) p e =
+    by-test (p n)
+    (λ h. let x = below-fails n p (by-test (allBelow n p) (λ a. absurd (false≢true (sym e ∙ and-both (allBelow n p) (p n) a h))) (λ a. a)) in (x .0, omega (arith, x .1), x .2))
+    (λ h. (n, omega arith, h))
 
 pub length-table : {A : Type 0} (f : ℕ → A) (n : ℕ) → length (table f n) ≡ n
 unfolding table
