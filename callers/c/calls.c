@@ -21,7 +21,10 @@ static const uint8_t BOOK[] = {3, 2, 0, 5, 1, 6, 3, 0, 1, 0, 1, 0, 7, 0, 0, 0, 0
 static const char LISTING[] = "3 2 1 3 2\n0 0 1 0 -\n0 1 1 1 -\n";
 static const char RESTED[] = "3 2 1 3 2\n0 0 5 0 1\n0 1 5 1 0\n";
 
-static uint8_t answers[TAUTLICHEN_ANSWERS], text[TAUTLICHEN_TEXT], keys[TAUTLICHEN_KEYS], met, lookups;
+static const char LINEAGE[] = "document\nprefix r <urn:runs:>\nentity(r:i0)\nactivity(r:a0,-,-)\n"
+                              "wasGeneratedBy(r:i0,r:a0,-)\nendDocument\n";
+
+static uint8_t answers[TAUTLICHEN_ANSWERS], text[TAUTLICHEN_PROVN], keys[TAUTLICHEN_KEYS], met, lookups;
 static uint16_t len, count;
 
 static void lend(void) {
@@ -60,7 +63,10 @@ static void calls(void) {
   EXPECT(met == 1 && lookups == 1 && keys[0] == 0 && all_lent(keys + 1, sizeof keys - 1));
   lend();
   EXPECT(tautlichen_walk(rested, sizeof rested, 0, keys, 0, &met, &lookups) == 14);
+  EXPECT(tautlichen_lineage(rested, sizeof rested, 0, text, strlen(LINEAGE) - 1, &len) == 14);
   EXPECT(nothing_written());
+  EXPECT(tautlichen_lineage(rested, sizeof rested, 0, text, strlen(LINEAGE), &len) == 0);
+  EXPECT(len == strlen(LINEAGE) && memcmp(text, LINEAGE, len) == 0 && all_lent(text + len, sizeof text - len));
 }
 
 static void refusals(void) {
@@ -72,6 +78,9 @@ static void refusals(void) {
   EXPECT(tautlichen_drain(BOOK, sizeof BOOK, text, strlen(RESTED) - 1, &len, &count) == 14);
   EXPECT(tautlichen_walk(BOOK, sizeof BOOK, 0, keys, sizeof keys, &met, &lookups) == 13);
   EXPECT(tautlichen_walk(BOOK, sizeof BOOK, 1, keys, sizeof keys, &met, &lookups) == 2);
+  EXPECT(tautlichen_lineage(BOOK, sizeof BOOK - 1, 0, text, sizeof text, &len) == 10);
+  EXPECT(tautlichen_lineage(BOOK, sizeof BOOK, 0, text, 0, &len) == 13);
+  EXPECT(tautlichen_lineage(BOOK, sizeof BOOK, 1, text, 0, &len) == 2);
   EXPECT(nothing_written());
 }
 

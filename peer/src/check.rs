@@ -187,7 +187,8 @@ impl Outcome {
     }
 
     fn of_programs(programs: &Programs, book: &[u8]) -> io::Result<Outcome> {
-        let (listing, inspect) = (programs.recorder.output(book)?, programs.inspect.output(book)?);
+        let (listing, inspect) =
+            (programs.recorder.output(&[], book)?, programs.inspect.output(&[], book)?);
         let answers = answers_in(&String::from_utf8_lossy(&inspect));
         Ok(Outcome { who: "the program", answers, listing, inspect })
     }

@@ -11,7 +11,9 @@ use std::sync::atomic::{AtomicBool, AtomicU64, Ordering};
 use std::thread;
 
 use crate::book::Book;
+use crate::calls;
 use crate::generate::generate;
+use crate::lineage::lineage;
 use crate::prep;
 use crate::programs;
 use crate::shrink::{shrink_bytes, shrink_messages};
@@ -47,33 +49,50 @@ pub const MESSAGE_FILES: Inputs = Inputs {
     },
 };
 
-/// A program that is compared, and what it should print for an input.
+/// The words behind a program's name.
+pub type Words = Vec<String>;
+
+/// A program that is compared: the words that it is called with for a seed's input, and what it
+/// should print.
 pub struct Program {
     name: &'static str,
     path: PathBuf,
-    expected: fn(&[u8]) -> String,
+    calls: fn(u64, &[u8]) -> Vec<Words>,
+    expected: fn(&[String], &[u8]) -> String,
+}
+
+/// One call, without words.
+fn bare(_: u64, _: &[u8]) -> Vec<Words> {
+    vec![Words::new()]
 }
 
 impl Program {
     pub fn recorder(path: PathBuf) -> Program {
-        Program { name: "recorder", path, expected: programs::recorder }
+        let expected = |_: &[String], input: &[u8]| programs::recorder(input);
+        Program { name: "recorder", path, calls: bare, expected }
     }
 
     pub fn inspect(path: PathBuf) -> Program {
-        Program { name: "inspect", path, expected: programs::inspect }
+        let expected = |_: &[String], input: &[u8]| programs::inspect(input);
+        Program { name: "inspect", path, calls: bare, expected }
     }
 
     pub fn prep(path: PathBuf) -> Program {
-        Program { name: "prep", path, expected: prep::program::prep }
+        let expected = |_: &[String], input: &[u8]| prep::program::prep(input);
+        Program { name: "prep", path, calls: bare, expected }
+    }
+
+    pub fn lineage(path: PathBuf) -> Program {
+        Program { name: "lineage", path, calls: calls::of_lineage, expected: lineage }
     }
 
     /// What the program prints for an input, and how it died if it did.
-    pub fn output(&self, input: &[u8]) -> io::Result<Vec<u8>> {
+    pub fn output(&self, words: &[String], input: &[u8]) -> io::Result<Vec<u8>> {
         let mut command = Command::new(&self.path);
-        let mut child =
-            command.stdin(Stdio::piped()).stdout(Stdio::piped()).spawn().map_err(|error| {
-                io::Error::new(error.kind(), format!("{}: {error}", self.path.display()))
-            })?;
+        command.args(words).stdin(Stdio::piped()).stdout(Stdio::piped());
+        let mut child = command.spawn().map_err(|error| {
+            io::Error::new(error.kind(), format!("{}: {error}", self.path.display()))
+        })?;
         let mut stdin = child.stdin.take().expect("standard input is piped");
         let mut output = thread::scope(|scope| {
             // A program may stop reading an input that is too long: what it prints counts.
@@ -85,9 +104,25 @@ impl Program {
         }
         Ok(output.stdout)
     }
+}
+
+/// A program with the words of one call.
+struct Call<'a> {
+    program: &'a Program,
+    words: Words,
+}
+
+impl Call<'_> {
+    fn output(&self, input: &[u8]) -> io::Result<Vec<u8>> {
+        self.program.output(&self.words, input)
+    }
+
+    fn expected(&self, input: &[u8]) -> String {
+        (self.program.expected)(&self.words, input)
+    }
 
     fn differs(&self, input: &[u8]) -> io::Result<bool> {
-        Ok(self.output(input)? != (self.expected)(input).into_bytes())
+        Ok(self.output(input)? != self.expected(input).into_bytes())
     }
 }
 
@@ -96,6 +131,7 @@ pub struct Difference<'a> {
     seed: u64,
     inputs: &'a Inputs,
     program: &'static str,
+    words: Words,
     input: Vec<u8>,
     expected: String,
     found: Vec<u8>,
@@ -117,7 +153,7 @@ pub fn compare<'a>(
         workers.into_iter().map(join).collect::<io::Result<Vec<_>>>()
     })?;
     let lowest = found.into_iter().flatten().min_by_key(|(seed, _)| *seed);
-    lowest.map(|(seed, program)| difference(seed, inputs, program)).transpose()
+    lowest.map(|(seed, call)| difference(seed, inputs, call)).transpose()
 }
 
 /// Takes seeds until one differs. Seeds go out rising and each is finished, so that the
@@ -128,18 +164,22 @@ fn search<'a>(
     stop: &AtomicBool,
     inputs: &Inputs,
     programs: &'a [Program],
-) -> io::Result<Option<(u64, &'a Program)>> {
+) -> io::Result<Option<(u64, Call<'a>)>> {
     while !stop.load(Ordering::Relaxed) {
         let seed = next.fetch_add(1, Ordering::Relaxed);
         if seed >= end {
             break;
         }
         let input = (inputs.generate)(seed);
-        for program in programs {
-            let differs = program.differs(&input);
+        let calls = programs.iter().flat_map(|program| {
+            let call = move |words| Call { program, words };
+            (program.calls)(seed, &input).into_iter().map(call)
+        });
+        for call in calls {
+            let differs = call.differs(&input);
             if !matches!(differs, Ok(false)) {
                 stop.store(true, Ordering::Relaxed);
-                return differs.map(|_| Some((seed, program)));
+                return differs.map(|_| Some((seed, call)));
             }
         }
     }
@@ -150,22 +190,23 @@ fn search<'a>(
 /// isn't worth minutes.
 const MAX_TRIES: usize = 5000;
 
-fn difference<'a>(seed: u64, inputs: &'a Inputs, program: &Program) -> io::Result<Difference<'a>> {
+fn difference<'a>(seed: u64, inputs: &'a Inputs, call: Call) -> io::Result<Difference<'a>> {
     let tries = Cell::new(0);
     let input = (inputs.shrink)((inputs.generate)(seed), &|input| {
         tries.set(tries.get() + 1);
-        tries.get() <= MAX_TRIES && program.differs(input).unwrap_or(false)
+        tries.get() <= MAX_TRIES && call.differs(input).unwrap_or(false)
     });
-    let expected = (program.expected)(&input);
-    let found = program.output(&input)?;
-    Ok(Difference { seed, inputs, program: program.name, input, expected, found })
+    let (expected, found) = (call.expected(&input), call.output(&input)?);
+    let Call { program, words } = call;
+    Ok(Difference { seed, inputs, program: program.name, words, input, expected, found })
 }
 
 impl fmt::Display for Difference<'_> {
     fn fmt(&self, out: &mut fmt::Formatter) -> fmt::Result {
         let Difference { seed, inputs, program, expected, .. } = self;
-        let name = inputs.name;
-        writeln!(out, "seed {seed}: {program} differs, and the smallest such {name} found is")?;
+        write!(out, "seed {seed}: {program}")?;
+        self.words.iter().try_for_each(|word| write!(out, " {word}"))?;
+        writeln!(out, " differs, and the smallest such {} found is", inputs.name)?;
         match (inputs.show)(&self.input) {
             Some(lines) => write!(out, "\n{lines}")?,
             None => {

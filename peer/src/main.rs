@@ -14,6 +14,7 @@ use peer::compare::{compare, Inputs, Program, BOOKS, MESSAGE_FILES};
 use peer::coverage::Coverage;
 use peer::explain::explain;
 use peer::generate::generate;
+use peer::lineage::lineage;
 use peer::prep;
 use peer::programs::{self, MAX_INPUT};
 use peer::text;
@@ -28,6 +29,8 @@ const USAGE: &str = "usage:
   peer generate SEED                          the book of a seed out
   peer coverage FROM COUNT                    what the books of some seeds cover
   peer compare FROM COUNT RECORDER INSPECT    the books of some seeds through two programs
+  peer lineage KEY [drained]                  a book on standard input, a walk as PROV-N out
+  peer compare-lineage FROM COUNT LINEAGE     the books of some seeds through a program
   peer prep                                   messages on standard input, answers and tables out
   peer generate-prep SEED                     the message file of a seed out
   peer coverage-prep FROM COUNT               what the message files of some seeds cover
@@ -65,6 +68,10 @@ fn run(arguments: &[&str]) -> Outcome {
             let programs = [Program::recorder(recorder.into()), Program::inspect(inspect.into())];
             compare_seeds(seeds(from, count)?, &BOOKS, &programs)
         }
+        ["lineage", ref words @ ..] => print(lineage(&owned(words), &program_input()?).as_bytes()),
+        ["compare-lineage", from, count, program] => {
+            compare_seeds(seeds(from, count)?, &BOOKS, &[Program::lineage(program.into())])
+        }
         ["prep"] => print(prep::program::prep(&program_input()?).as_bytes()),
         ["generate-prep", seed] => print(&prep::generate::generate(number(seed)?)),
         ["coverage-prep", from, count] => {
@@ -76,6 +83,10 @@ fn run(arguments: &[&str]) -> Outcome {
         }
         _ => Err(USAGE.into()),
     }
+}
+
+fn owned(words: &[&str]) -> Vec<String> {
+    words.iter().map(ToString::to_string).collect()
 }
 
 fn print(bytes: &[u8]) -> Outcome {

@@ -41,6 +41,27 @@ fn run(input: &[u8]) -> Result<(Machine, Vec<u8>), Refusal> {
     Ok((machine, answers))
 }
 
+/// The machine after the book, drained where that word is `drained`; no store is restarted.
+pub fn machine_after(input: &[u8], word: Option<&String>) -> Result<Machine, Refusal> {
+    let (mut machine, _) = run(input)?;
+    if word.is_some_and(|word| word == "drained") {
+        machine.drain()?;
+    }
+    Ok(machine)
+}
+
+/// The key that a program's word names: a decimal number of one byte without leading zeros.
+pub fn key_word(word: Option<&String>) -> Result<u8, Refusal> {
+    number_word(word).ok_or(Refusal::NotInMachine)
+}
+
+fn number_word(word: Option<&String>) -> Option<u8> {
+    let word = word?;
+    let number: u8 = word.parse().ok()?;
+    // A sign or a leading zero doesn't come back.
+    (number.to_string() == *word).then_some(number)
+}
+
 fn taken(answers: &[u8]) -> usize {
     answers.iter().filter(|&&answer| answer == 0).count()
 }

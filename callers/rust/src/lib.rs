@@ -11,6 +11,8 @@ pub const ANSWERS: usize = 4096;
 pub const TEXT: usize = 1024;
 /// Room for the keys of every walk.
 pub const KEYS: usize = 16;
+/// Room for every PROV-N document.
+pub const PROVN: usize = 6247;
 
 /// Why a call was refused: document 01's number, never 0.
 #[derive(Clone, Copy, Debug, PartialEq, Eq)]
@@ -76,6 +78,14 @@ mod linked {
             keys_len: usize,
             count: *mut u8,
             lookups: *mut u8,
+        ) -> u8;
+        pub fn tautlichen_lineage(
+            book: *const u8,
+            book_len: usize,
+            key: u8,
+            text: *mut u8,
+            text_len: usize,
+            len: *mut u16,
         ) -> u8;
     }
 }
@@ -171,4 +181,23 @@ pub fn walk<'k>(book: &[u8], key: u8, keys: &'k mut [u8]) -> Result<Walked<'k>, 
         )
     })?;
     Ok(Walked { keys: &keys[..count.into()], lookups })
+}
+
+/// The walk of a key in the machine after a book as a PROV-N document, which is written into `text`.
+///
+/// Refused as [`walk`], 14 where the document is longer than `text`.
+pub fn lineage<'t>(book: &[u8], key: u8, text: &'t mut [u8]) -> Result<&'t [u8], Refusal> {
+    let mut len = 0;
+    // Safety: as for `list`.
+    done(unsafe {
+        linked::tautlichen_lineage(
+            book.as_ptr(),
+            book.len(),
+            key,
+            text.as_mut_ptr(),
+            text.len(),
+            &mut len,
+        )
+    })?;
+    Ok(&text[..len.into()])
 }

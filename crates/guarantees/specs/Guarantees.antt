@@ -195,13 +195,13 @@ Books = (book : List ℕ) (room : ℕ) → runOf book room .answer ≡ 0 → Boo
 -- 9. Every call answers: each public call is a proved function, so it ends for every input; and its promise, `result ≡ definition of
 -- the inputs`, leaves exactly one result. That holds of any definition, and shows nothing by itself: what bites is that the contracts
 -- have this shape, which the gate looks at. All public calls, with the crate that has them:
---   protocol: status_number
+--   protocol: status_number, unset_view
 --   broken: legal, fresh, empty, is_broken
 --   rules: look_back, Slots::rule (the two that `machine` is made of; the second has no equation, docs/ say why)
 --   machine: Machine::empty, setup, broken, step; its joints step_unbroken and steps_unbroken, for machines that are not broken
 --   drain: drain. walk: walk. runs: run, with its buffer
---   listing: refused, listing
---   tautlichen: tautlichen_run, _list, _drain, _walk, whose lent values are told one by one in its specs/Only.antt
+--   listing: refused, listing. provn: write
+--   tautlichen: tautlichen_run, _list, _drain, _walk, _lineage, whose lent values are told one by one in its specs/Only.antt
 --   bench: bench_run, bench_broken, bench_walk, bench_drain, bench_step, bench_step_unbroken
 abbrev pub Determined : {A : Type 0} → A → Type 0
 Determined {A} d = (x y : A) → x ≡ d → y ≡ d → x ≡ y

@@ -33,3 +33,6 @@ pub mod Run
 pub mod Drain
 pub mod Walk
 pub mod Listing
+pub mod Lent
+pub mod Chain
+pub mod Provn

@@ -251,3 +251,16 @@ pub struct Walked {
     pub count: u8,
     pub lookups: u8,
 }
+
+// An interaction as its sender record states it: its key, who sent it, and its causes, bit k for interaction k.
+pub struct Interaction {
+    pub key: u8,
+    pub sender: u8,
+    pub causes: u16,
+}
+
+// What writing into a lent buffer gives: the count of bytes, 0 where it is refused.
+pub struct Written {
+    pub answer: u8,
+    pub len: u16,
+}

@@ -3,13 +3,13 @@ use Prim.Native.Nat.{ℕ, _*_, _-_, _≤_, _<_}
 use mathlib.Core.Path.{_≡_}
 use mathlib.Core.Logic.{_≢_}
 use mathlib.Core.Bool.{true}
-use mathlib.Core.List.{List}
-use lib.ListN.{take, replicate}
+use lib.ListN.{replicate}
 use Rattle.protocol.specs.Words.{bit, times}
 use Rattle.protocol.specs.Slots.{number, view}
 use Rattle.protocol.specs.declared.State.{State}
 use Rattle.protocol.specs.declared.Walked.{Walked}
 use Rattle.protocol.specs.Walk.{walkOf}
+pub use Rattle.protocol.specs.Chain.{keysOf}
 
 -- j is one of the causes that the sender record of k holds: 16 bits, bit j for interaction j
 pub record Cause (m : State) (k j : ℕ) : Type 0 where
@@ -20,10 +20,6 @@ pub record Cause (m : State) (k j : ℕ) : Type 0 where
 pub data Reach (m : State) : ℕ → ℕ → Type 0 where
   here : {k : ℕ} → Reach m k k
   by : {k j i : ℕ} → Cause m k j → Reach m j i → Reach m k i
-
--- the keys that a walk answers, in the order first met
-abbrev pub keysOf : Walked → List ℕ
-keysOf r = take (r .count) (r .keys)
 
 pub record Exactly (m : State) (k : ℕ) (r : Walked) : Type 0 where
   pub once : (i : ℕ) → Reach m k i → times i (keysOf r) ≡ 1

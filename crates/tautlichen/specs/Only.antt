@@ -5,8 +5,8 @@ use mathlib.Core.List.{List}
 use lib.ListN.{length}
 use Rattle.protocol.specs.Run.{runOf, bufferOf}
 use Rattle.reaches.specs.Reaches.{keysOf}
-use Rattle.tautlichen.specs.Lent.{lent, over}
-use Rattle.tautlichen.specs.Calls.{listText, listNo, drainAfter, drainText, drainNo, walkAfter, walkNo}
+use Rattle.protocol.specs.Lent.{lent, over}
+use Rattle.tautlichen.specs.Calls.{listText, listNo, drainAfter, drainText, drainNo, walkAfter, walkNo, lineageText, lineageNo}
 
 -- of two results with their numbers, where such is the number and such is written
 abbrev pub Determined : {A : Type 0} → ℕ → A → A → Type 0
@@ -26,3 +26,5 @@ pub record EveryExport : Type 0 where
   pub walk-keys : (book : List ℕ) (key : ℕ) (keys : List ℕ) → Determined (walkNo book key keys) (over (keysOf (walkAfter book key)) keys) keys
   pub walk-count : (book : List ℕ) (key : ℕ) (keys : List ℕ) (count : ℕ) → Determined (walkNo book key keys) (walkAfter book key .count) count
   pub walk-lookups : (book : List ℕ) (key : ℕ) (keys : List ℕ) (lookups : ℕ) → Determined (walkNo book key keys) (walkAfter book key .lookups) lookups
+  pub lineage-text : (book : List ℕ) (key : ℕ) (text : List ℕ) → Determined (lineageNo book key text) (over (lineageText book key) text) text
+  pub lineage-len : (book : List ℕ) (key : ℕ) (text : List ℕ) (len : ℕ) → Determined (lineageNo book key text) (length (lineageText book key)) len

@@ -30,7 +30,8 @@ fn stand_in(subcommand: &str) -> PathBuf {
     static MADE: AtomicUsize = AtomicUsize::new(0);
     let name = format!("{subcommand}-{}", MADE.fetch_add(1, Ordering::Relaxed));
     let path = Path::new(env!("CARGO_TARGET_TMPDIR")).join(name);
-    fs::write(&path, format!("#!/bin/sh\nexec '{PEER}' {subcommand}\n")).expect("it is written");
+    fs::write(&path, format!("#!/bin/sh\nexec '{PEER}' {subcommand} \"$@\"\n"))
+        .expect("it is written");
     fs::set_permissions(&path, Permissions::from_mode(0o755)).expect("it is made to run");
     path
 }
@@ -82,6 +83,19 @@ fn a_comparison_without_a_difference_says_so() {
     let output = peer(&["compare", "20", "40", &programs[0], &programs[1]], &[]);
     assert_eq!(text(&output.stdout), "40 books from seed 20: no difference\n");
     assert_eq!(output.status.code(), Some(0));
+}
+
+#[test]
+fn lineages_are_compared_with_their_words() {
+    let program = stand_in("lineage").display().to_string();
+    let output = peer(&["compare-lineage", "0", "40", &program], &[]);
+    assert_eq!(text(&output.stdout), "40 books from seed 0: no difference\n");
+    // One that never drains is wrong where a drain is asked for.
+    let undrained = stand_in("lineage \"$1\" #").display().to_string();
+    let output = peer(&["compare-lineage", "0", "1", &undrained], &[]);
+    let told = text(&output.stdout);
+    assert!(told.starts_with("seed 0: lineage ") && told.contains(" drained differs"), "{told}");
+    assert_eq!(output.status.code(), Some(1));
 }
 
 #[test]

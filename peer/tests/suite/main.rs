@@ -7,6 +7,7 @@ mod common;
 mod examples;
 mod explain;
 mod generated;
+mod lineage;
 mod marked_runs;
 mod prep;
 mod programs;

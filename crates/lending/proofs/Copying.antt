@@ -8,7 +8,7 @@ use native.Mathlib.Omega.{arith}
 use lib.ListN.{length, take, set, getD, length-set}
 use lib.Seq.{paste, paste-zero, paste-suc, length-take-le}
 use borrow.Author.Tests.{lt-ltb, le-ltb}
-use Rattle.tautlichen.specs.Lent.{shortNo, over}
+use Rattle.protocol.specs.Lent.{shortNo, over}
 
 pub over-take : (from to : List ℕ) (n : ℕ) → n ≤ length from → over (take n from) to ≡ paste to 0 from n
 unfolding over

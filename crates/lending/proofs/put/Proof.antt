@@ -1,9 +1,9 @@
--- `tautlichen::put` meets its contract: the test finds the buffer too short, or the copy goes over it. Assumes nothing.
+-- `lending::put` meets its contract: the test finds the buffer too short, or the copy goes over it. Assumes nothing.
 use mathlib.Core.Path.{refl}
 use borrow.Author.Needs.{needs}
-use Rattle.tautlichen.proofs.Copying.{too-short, has-room}
-use Rattle.tautlichen.proofs.put.Statement.{statement}
-use Rattle.tautlichen.proofs.put.Tie as tie
+use Rattle.lending.proofs.Copying.{too-short, has-room}
+use Rattle.lending.proofs.put.Statement.{statement}
+use Rattle.lending.proofs.put.Tie as tie
 
 returns : tie.Need-returns
 returns c = (too-short _ _ _ (c .before .before .before .pre) (c .if1 .taken), refl)

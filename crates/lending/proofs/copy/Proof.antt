@@ -1,9 +1,9 @@
--- `tautlichen::copy` meets its contract. The loop's invariant: the first i bytes are copied. Assumes nothing.
+-- `lending::copy` meets its contract. The loop's invariant: the first i bytes are copied. Assumes nothing.
 use Prim.Native.Nat.{_-_}
 use native.Mathlib.Omega.{arith}
-use Rattle.tautlichen.proofs.Copying.{Copied, copied-none, copied-more, copied-all}
-use Rattle.tautlichen.proofs.copy.Statement.{statement}
-use Rattle.tautlichen.proofs.copy.Tie as tie
+use Rattle.lending.proofs.Copying.{Copied, copied-none, copied-more, copied-all}
+use Rattle.lending.proofs.copy.Statement.{statement}
+use Rattle.lending.proofs.copy.Tie as tie
 
 abbrev Inv-loop : tie.InvT-loop
 Inv-loop to₀ from n i₀ to i = Copied from to₀ n to i
