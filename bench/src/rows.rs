@@ -144,7 +144,7 @@ fn drain(draft: &Draft) -> Row {
 
 fn walk(draft: &Draft) -> Row {
     let (bytes, machine) = (draft.bytes(), draft.machine().clone());
-    let keys = machine.walk(15).expect("the chain is closed").len();
+    let keys = machine.walk(15).expect("the chain is closed").keys.len();
     let at = place(keys as u32, |at| ours::walk(&bytes, 15, at, 1));
     Row {
         name: format!("the walk of {keys} keys"),

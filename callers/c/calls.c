@@ -21,14 +21,17 @@ static const uint8_t BOOK[] = {3, 2, 0, 5, 1, 6, 3, 0, 1, 0, 1, 0, 7, 0, 0, 0, 0
 static const char LISTING[] = "3 2 1 3 2\n0 0 1 0 -\n0 1 1 1 -\n";
 static const char RESTED[] = "3 2 1 3 2\n0 0 5 0 1\n0 1 5 1 0\n";
 
-static uint8_t answers[TAUTLICHEN_ANSWERS], text[TAUTLICHEN_TEXT], keys[TAUTLICHEN_KEYS], met;
+static const char LINEAGE[] = "document\nprefix r <urn:runs:>\nentity(r:i0)\nactivity(r:a0,-,-)\n"
+                              "wasGeneratedBy(r:i0,r:a0,-)\nendDocument\n";
+
+static uint8_t answers[TAUTLICHEN_ANSWERS], text[TAUTLICHEN_PROVN], keys[TAUTLICHEN_KEYS], met, lookups;
 static uint16_t len, count;
 
 static void lend(void) {
   memset(answers, LENT, sizeof answers);
   memset(text, LENT, sizeof text);
   memset(keys, LENT, sizeof keys);
-  len = count = met = LENT;
+  len = count = met = lookups = LENT;
 }
 
 static int all_lent(const uint8_t *bytes, size_t n) {
@@ -39,7 +42,7 @@ static int all_lent(const uint8_t *bytes, size_t n) {
 
 static int nothing_written(void) {
   return all_lent(answers, sizeof answers) && all_lent(text, sizeof text) && all_lent(keys, sizeof keys) && len == LENT &&
-         count == LENT && met == LENT;
+         count == LENT && met == LENT && lookups == LENT;
 }
 
 static void calls(void) {
@@ -56,11 +59,14 @@ static void calls(void) {
   /* The setup, and then the example's send with the eleven steps that bring it to rest. */
   static const uint8_t rested[] = {3, 2, 0, 5, 1, 6, 12, 0, 1, 0, 1, 0, 7, 0, 0, 0, 0, 0, 2, 0, 3, 0, 4, 0, 6,
                                    0, 0, 0, 7, 0, 0, 0, 8, 0, 3, 1, 4, 1, 6, 1, 0, 1, 7, 1, 0, 1, 8, 1};
-  EXPECT(tautlichen_walk(rested, sizeof rested, 0, keys, sizeof keys, &met) == 0);
-  EXPECT(met == 1 && keys[0] == 0 && all_lent(keys + 1, sizeof keys - 1));
+  EXPECT(tautlichen_walk(rested, sizeof rested, 0, keys, sizeof keys, &met, &lookups) == 0);
+  EXPECT(met == 1 && lookups == 1 && keys[0] == 0 && all_lent(keys + 1, sizeof keys - 1));
   lend();
-  EXPECT(tautlichen_walk(rested, sizeof rested, 0, keys, 0, &met) == 14);
+  EXPECT(tautlichen_walk(rested, sizeof rested, 0, keys, 0, &met, &lookups) == 14);
+  EXPECT(tautlichen_lineage(rested, sizeof rested, 0, text, strlen(LINEAGE) - 1, &len) == 14);
   EXPECT(nothing_written());
+  EXPECT(tautlichen_lineage(rested, sizeof rested, 0, text, strlen(LINEAGE), &len) == 0);
+  EXPECT(len == strlen(LINEAGE) && memcmp(text, LINEAGE, len) == 0 && all_lent(text + len, sizeof text - len));
 }
 
 static void refusals(void) {
@@ -70,8 +76,11 @@ static void refusals(void) {
   EXPECT(tautlichen_list(BOOK, sizeof BOOK, answers, 2, text, 0, &len) == 12);
   EXPECT(tautlichen_list(BOOK, sizeof BOOK, answers, sizeof answers, text, strlen(LISTING) - 1, &len) == 14);
   EXPECT(tautlichen_drain(BOOK, sizeof BOOK, text, strlen(RESTED) - 1, &len, &count) == 14);
-  EXPECT(tautlichen_walk(BOOK, sizeof BOOK, 0, keys, sizeof keys, &met) == 13);
-  EXPECT(tautlichen_walk(BOOK, sizeof BOOK, 1, keys, sizeof keys, &met) == 2);
+  EXPECT(tautlichen_walk(BOOK, sizeof BOOK, 0, keys, sizeof keys, &met, &lookups) == 13);
+  EXPECT(tautlichen_walk(BOOK, sizeof BOOK, 1, keys, sizeof keys, &met, &lookups) == 2);
+  EXPECT(tautlichen_lineage(BOOK, sizeof BOOK - 1, 0, text, sizeof text, &len) == 10);
+  EXPECT(tautlichen_lineage(BOOK, sizeof BOOK, 0, text, 0, &len) == 13);
+  EXPECT(tautlichen_lineage(BOOK, sizeof BOOK, 1, text, 0, &len) == 2);
   EXPECT(nothing_written());
 }
 

@@ -15,6 +15,7 @@
 #define TAUTLICHEN_ANSWERS 4096 /* a number for each step of a book */
 #define TAUTLICHEN_TEXT 1024    /* a listing */
 #define TAUTLICHEN_KEYS 16      /* the keys of a walk */
+#define TAUTLICHEN_PROVN 6247   /* a PROV-N document */
 
 #ifdef __cplusplus
 extern "C" {
@@ -39,11 +40,18 @@ uint8_t tautlichen_drain(const uint8_t *book, size_t book_len, uint8_t *text, si
                          uint16_t *count);
 
 /* Walks back from a key in the machine after a book: the keys met go into `keys`, each once, in the order first met, and how
- * many they are into `*count`.
+ * many they are into `*count`; how many store entries were looked up for them into `*lookups`, 2 * count - 1.
  *
  * 10, 11, then 2: no such key, 13: the walk meets an interaction that isn't closed, then 14: there are more keys than `keys`
  * has bytes. */
-uint8_t tautlichen_walk(const uint8_t *book, size_t book_len, uint8_t key, uint8_t *keys, size_t keys_len, uint8_t *count);
+uint8_t tautlichen_walk(const uint8_t *book, size_t book_len, uint8_t key, uint8_t *keys, size_t keys_len, uint8_t *count,
+                        uint8_t *lookups);
+
+/* Writes the walk of a key in the machine after a book as a PROV-N document into `text`, and its length in bytes into `*len`.
+ * The text ends in a line feed and in no zero byte.
+ *
+ * 10, 11, then 2 and 13 as the walk, then 14: the document is longer than `text`. */
+uint8_t tautlichen_lineage(const uint8_t *book, size_t book_len, uint8_t key, uint8_t *text, size_t text_len, uint16_t *len);
 
 /* Checks the pair of a forecast in the machine after a book, by rule 1 (the old registry's) or 2 (the new one's): 1 into
  * `*passes` where weights and scaler belong together, else 0.

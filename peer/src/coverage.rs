@@ -10,6 +10,7 @@ use crate::programs::MAX_INPUT;
 use crate::refusal::{number, Refusal};
 use crate::step::{Step, KINDS};
 use crate::text::kind_name;
+use crate::walk::Walk;
 
 /// The answers that document 01 allows to each kind, kind 1 first.
 const POSSIBLE: [&[u8]; KINDS as usize] = [
@@ -49,10 +50,11 @@ enum Event {
     WalkRefused,
     LongWalk,
     LongWalkAfterDrain,
+    KeyMetAgain,
 }
 
 /// What each event is called, in their order.
-const EVENT_NAMES: [&str; 15] = [
+const EVENT_NAMES: [&str; 16] = [
     "a sixteenth record lost",
     "a sixteenth ack lost",
     "a sixteenth update lost",
@@ -68,6 +70,7 @@ const EVENT_NAMES: [&str; 15] = [
     "a walk refused at an open interaction",
     "a walk over several interactions",
     "a walk over several interactions after a drain",
+    "a walk that meets a key again",
 ];
 
 /// Counts over the books of some seeds.
@@ -124,8 +127,10 @@ impl Coverage {
         self.add_event(Event::LongWalk, has_long_walk(&walked));
         let drained = machine.drain();
         self.add_event(Event::DrainRefused, drained == Err(Refusal::StoreDown));
-        let long = has_long_walk(&walks(&machine));
+        let walked = walks(&machine);
+        let long = has_long_walk(&walked);
         self.add_event(Event::LongWalkAfterDrain, drained.is_ok() && long);
+        self.add_event(Event::KeyMetAgain, has_key_met_again(&machine, &walked));
     }
 
     fn add_event(&mut self, event: Event, met: bool) {
@@ -190,12 +195,19 @@ impl Coverage {
     }
 }
 
-fn walks(machine: &Machine) -> Vec<Result<Vec<u8>, Refusal>> {
+fn walks(machine: &Machine) -> Vec<Result<Walk, Refusal>> {
     (0..machine.interaction_count).map(|key| machine.walk(key)).collect()
 }
 
-fn has_long_walk(walks: &[Result<Vec<u8>, Refusal>]) -> bool {
-    walks.iter().flatten().any(|keys| keys.len() > 1)
+fn has_long_walk(walks: &[Result<Walk, Refusal>]) -> bool {
+    walks.iter().flatten().any(|walk| walk.keys.len() > 1)
+}
+
+/// Whether a walk met a key again: more causes in what it met than keys behind its first.
+fn has_key_met_again(machine: &Machine, walks: &[Result<Walk, Refusal>]) -> bool {
+    let causes = |key: &u8| machine.record(View::sender(*key)).causes.count_ones() as usize;
+    let met = |walk: &Walk| walk.keys.iter().map(causes).sum::<usize>();
+    walks.iter().flatten().any(|walk| met(walk) > walk.keys.len() - 1)
 }
 
 /// What is worth noting about a step that the machine takes.

@@ -6,6 +6,7 @@ use crate::book::{self, Book};
 use crate::machine::{members, Machine, Phase, View};
 use crate::refusal::{number, Refusal};
 use crate::step::Step;
+use crate::walk::Walk;
 
 /// Standard input longer than this is refused as malformed.
 pub const MAX_INPUT: usize = 65_536;
@@ -38,6 +39,27 @@ fn run(input: &[u8]) -> Result<(Machine, Vec<u8>), Refusal> {
     let mut answers = vec![0; Book::read(input)?.steps.len()];
     let machine = book::run(input, &mut answers)?;
     Ok((machine, answers))
+}
+
+/// The machine after the book, drained where that word is `drained`; no store is restarted.
+pub fn machine_after(input: &[u8], word: Option<&String>) -> Result<Machine, Refusal> {
+    let (mut machine, _) = run(input)?;
+    if word.is_some_and(|word| word == "drained") {
+        machine.drain()?;
+    }
+    Ok(machine)
+}
+
+/// The key that a program's word names: a decimal number of one byte without leading zeros.
+pub fn key_word(word: Option<&String>) -> Result<u8, Refusal> {
+    number_word(word).ok_or(Refusal::NotInMachine)
+}
+
+fn number_word(word: Option<&String>) -> Option<u8> {
+    let word = word?;
+    let number: u8 = word.parse().ok()?;
+    // A sign or a leading zero doesn't come back.
+    (number.to_string() == *word).then_some(number)
 }
 
 fn taken(answers: &[u8]) -> usize {
@@ -167,8 +189,8 @@ fn causes(out: &mut String, causes: u16, links: &[u8]) -> fmt::Result {
 
 fn walk_line(out: &mut String, machine: &Machine, key: u8) -> fmt::Result {
     match machine.walk(key) {
-        Ok(keys) => {
-            write!(out, "W {key} 0 {}", keys.len())?;
+        Ok(Walk { keys, lookups }) => {
+            write!(out, "W {key} 0 {} {lookups}", keys.len())?;
             keys.iter().try_for_each(|met| write!(out, " {met}"))?;
             writeln!(out)
         }

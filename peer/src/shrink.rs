@@ -1,7 +1,10 @@
-//! Makes a book smaller for as long as it still shows what it is kept for.
+//! Makes a book, or a file of messages, smaller for as long as it still shows what it is kept
+//! for.
 
 use crate::book::Book;
+use crate::compare::Test;
 use crate::machine::{members, ActorSetup, Machine};
+use crate::prep::messages::{self, Activity, Message, Said};
 use crate::step::{fields, Field, Step};
 
 /// The ways to simplify a book, other than to drop steps.
@@ -14,7 +17,7 @@ const CANDIDATES: [fn(&Book) -> Vec<Book>; 5] = [
 ];
 
 /// A smaller book for which the test still holds, but for none that is one change away from it.
-pub fn shrink(bytes: Vec<u8>, holds: impl Fn(&[u8]) -> bool) -> Vec<u8> {
+pub fn shrink_bytes(bytes: Vec<u8>, holds: &Test) -> Vec<u8> {
     match Book::read(&bytes) {
         Ok(book) => shrink_book(book, |book| holds(&book.bytes())).bytes(),
         Err(_) => drop_items(bytes, |fewer| holds(fewer)),
@@ -154,4 +157,49 @@ fn with_simpler_fields(book: &Book) -> Vec<Book> {
         }
     }
     simpler
+}
+
+/// A smaller file of messages for which the test still holds.
+pub fn shrink_messages(bytes: Vec<u8>, holds: &Test) -> Vec<u8> {
+    let Some(mut messages) = messages::read(&bytes) else { return drop_items(bytes, holds) };
+    loop {
+        let before = messages.clone();
+        messages = drop_items(messages, |fewer| holds(&messages::write(fewer)));
+        while let Some(simpler) = with_simpler_numbers(&messages)
+            .into_iter()
+            .find(|simpler| holds(&messages::write(simpler)))
+        {
+            messages = simpler;
+        }
+        if messages == before {
+            return messages::write(&messages);
+        }
+    }
+}
+
+/// The messages with one number smaller, everywhere that it stands.
+fn with_simpler_numbers(messages: &[Message]) -> Vec<Vec<Message>> {
+    let mut numbers: Vec<u32> = messages.iter().flat_map(numbers_of).collect();
+    numbers.sort_unstable();
+    numbers.dedup();
+    let mut simpler = Vec::new();
+    for number in numbers.into_iter().filter(|&number| number > 0) {
+        for smaller in [0, number / 2, number - 1] {
+            let replace = |found| if found == number { smaller } else { found };
+            simpler.push(messages.iter().map(|message| with_numbers(message, replace)).collect());
+        }
+    }
+    simpler
+}
+
+fn numbers_of(message: &Message) -> Vec<u32> {
+    let fields = message.said.fields();
+    [&[message.sender][..], &message.activity.numbers(), &fields].concat()
+}
+
+fn with_numbers(message: &Message, replace: impl Fn(u32) -> u32 + Copy) -> Message {
+    let fields: Vec<u32> = message.said.fields().into_iter().map(replace).collect();
+    let said = Said::from_fields(message.said.kind(), &fields).expect("the kind is known");
+    let activity = Activity::from_numbers(message.activity.numbers().map(replace));
+    Message { sender: replace(message.sender), activity, said }
 }

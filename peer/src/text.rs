@@ -35,7 +35,8 @@ pub const STEP_FORMS: [&str; 16] = [
     "restart STORE",
 ];
 
-const WHATS: [&str; 4] = ["record", "ack", "update", "uack"];
+/// The names of the messages that can be lost, by their numbers.
+pub const WHATS: [&str; 4] = ["record", "ack", "update", "uack"];
 
 /// What is wrong with a text, and in which line.
 #[derive(Clone, PartialEq, Eq, Debug)]
@@ -61,11 +62,14 @@ pub fn write(book: &Book) -> String {
     for actor in &book.actors {
         lines.push(line(ACTOR_FORM, &[actor.home.into(), actor.list.into()]));
     }
-    for step in &book.steps {
-        let (kind, values) = step.values();
-        lines.push(line(STEP_FORMS[usize::from(kind) - 1], &values));
-    }
+    lines.extend(book.steps.iter().map(step_line));
     lines.join("\n") + "\n"
+}
+
+/// The line of a step.
+pub fn step_line(step: &Step) -> String {
+    let (kind, values) = step.values();
+    line(STEP_FORMS[usize::from(kind) - 1], &values)
 }
 
 fn line(form: &str, values: &[u32]) -> String {

@@ -11,6 +11,8 @@ pub const ANSWERS: usize = 4096;
 pub const TEXT: usize = 1024;
 /// Room for the keys of every walk.
 pub const KEYS: usize = 16;
+/// Room for every PROV-N document.
+pub const PROVN: usize = 6247;
 
 /// Why a call was refused: document 01's number, never 0.
 #[derive(Clone, Copy, Debug, PartialEq, Eq)]
@@ -31,6 +33,15 @@ pub struct Drained<'t> {
     pub count: u16,
     /// The listing after it.
     pub listing: &'t [u8],
+}
+
+/// What a walk gives.
+#[derive(Clone, Copy, Debug, PartialEq, Eq)]
+pub struct Walked<'k> {
+    /// The keys met, each once, in the order first met.
+    pub keys: &'k [u8],
+    /// How many store entries were looked up for them: one for the first key, two for each behind it.
+    pub lookups: u8,
 }
 
 // The exported functions: a slice is its pointer and its length, as in callers/c/tautlichen.h.
@@ -66,6 +77,15 @@ mod linked {
             keys: *mut u8,
             keys_len: usize,
             count: *mut u8,
+            lookups: *mut u8,
+        ) -> u8;
+        pub fn tautlichen_lineage(
+            book: *const u8,
+            book_len: usize,
+            key: u8,
+            text: *mut u8,
+            text_len: usize,
+            len: *mut u16,
         ) -> u8;
     }
 }
@@ -141,13 +161,14 @@ pub fn drain<'t>(book: &[u8], text: &'t mut [u8]) -> Result<Drained<'t>, Refusal
     Ok(Drained { count, listing: &text[..len.into()] })
 }
 
-/// Walks back from a key in the machine after a book: the keys met, each once, in the order first met, written into `keys`.
+/// Walks back from a key in the machine after a book: the keys met, each once, in the order first met, written into `keys`,
+/// and how many store entries were looked up for them.
 ///
 /// Refused with 10 and 11 as [`run`], then 2 for a key that isn't made, 13 where the walk meets an interaction that isn't
 /// closed, then 14 where the keys are more than `keys` has room for.
-pub fn walk<'k>(book: &[u8], key: u8, keys: &'k mut [u8]) -> Result<&'k [u8], Refusal> {
-    let mut count = 0;
-    // Safety: as for `run`, and `count` is a local.
+pub fn walk<'k>(book: &[u8], key: u8, keys: &'k mut [u8]) -> Result<Walked<'k>, Refusal> {
+    let (mut count, mut lookups) = (0, 0);
+    // Safety: as for `run`, and `count` and `lookups` are locals.
     done(unsafe {
         linked::tautlichen_walk(
             book.as_ptr(),
@@ -156,9 +177,29 @@ pub fn walk<'k>(book: &[u8], key: u8, keys: &'k mut [u8]) -> Result<&'k [u8], Re
             keys.as_mut_ptr(),
             keys.len(),
             &mut count,
+            &mut lookups,
         )
     })?;
-    Ok(&keys[..count.into()])
+    Ok(Walked { keys: &keys[..count.into()], lookups })
+}
+
+/// The walk of a key in the machine after a book as a PROV-N document, which is written into `text`.
+///
+/// Refused as [`walk`], 14 where the document is longer than `text`.
+pub fn lineage<'t>(book: &[u8], key: u8, text: &'t mut [u8]) -> Result<&'t [u8], Refusal> {
+    let mut len = 0;
+    // Safety: as for `list`.
+    done(unsafe {
+        linked::tautlichen_lineage(
+            book.as_ptr(),
+            book.len(),
+            key,
+            text.as_mut_ptr(),
+            text.len(),
+            &mut len,
+        )
+    })?;
+    Ok(&text[..len.into()])
 }
 
 mod linked_pair {

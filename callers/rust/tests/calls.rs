@@ -1,6 +1,6 @@
-//! The four calls: document 01's example and its marked run W12, and what each refusal leaves.
+//! The six calls: document 01's example and its marked run W12, and what each refusal leaves.
 
-use tautlichen::{drain, list, run, walk, Drained, Refusal, KEYS, TEXT};
+use tautlichen::{drain, lineage, list, run, walk, Drained, Refusal, Walked, KEYS, PROVN, TEXT};
 
 /// Three stores; actor 0 at home in 0, with 0 and 2; actor 1 at home in 1, with 1 and 2.
 const SETUP: [u8; 6] = [3, 2, 0, 5, 1, 6];
@@ -70,9 +70,32 @@ fn drain_and_walk() {
     assert_eq!(keys, [LENT; KEYS], "a refusal writes nothing");
 
     assert_eq!(drain(&closed(), &mut text).map(|drained| drained.count), Ok(0));
-    assert_eq!(walk(&closed(), 1, &mut keys), Ok(&[1, 0][..]));
-    assert_eq!(walk(&closed(), 0, &mut keys[..1]), Ok(&[0][..]));
+    assert_eq!(walk(&closed(), 1, &mut keys), Ok(Walked { keys: &[1, 0], lookups: 3 }));
+    assert_eq!(walk(&closed(), 0, &mut keys[..1]), Ok(Walked { keys: &[0], lookups: 1 }));
     assert_eq!(keys[2..], [LENT; KEYS - 2], "bytes behind stay");
+}
+
+#[test]
+fn lineage_of_w12() {
+    let document = b"document
+prefix r <urn:runs:>
+entity(r:i1)
+entity(r:i0)
+activity(r:a1,-,-)
+activity(r:a0,-,-)
+wasGeneratedBy(r:i1,r:a1,-)
+used(r:a1,r:i0,-)
+wasDerivedFrom(r:i1,r:i0)
+wasGeneratedBy(r:i0,r:a0,-)
+endDocument
+";
+    let mut text = [LENT; PROVN];
+    assert_eq!(lineage(&closed(), 1, &mut text[..document.len() - 1]), Err(Refusal(14)));
+    assert_eq!(text, [LENT; PROVN], "a refusal writes nothing");
+    assert_eq!(lineage(&closed(), 1, &mut text[..document.len()]), Ok(&document[..]));
+    assert!(text[document.len()..].iter().all(|byte| *byte == LENT), "bytes behind stay");
+    assert_eq!(lineage(&closed(), 2, &mut []), Err(Refusal(2)), "2 before 14");
+    assert_eq!(lineage(&book(&[SEND, RECEIVE]), 0, &mut []), Err(Refusal(13)), "13 before 14");
 }
 
 #[test]
@@ -87,6 +110,7 @@ fn refused_books_write_nothing() {
         assert_eq!(list(book, &mut answers, &mut text), Err(Refusal(number)));
         assert_eq!(drain(book, &mut text), Err(Refusal(number)));
         assert_eq!(walk(book, 0, &mut keys), Err(Refusal(number)));
+        assert_eq!(lineage(book, 0, &mut text), Err(Refusal(number)));
         assert_eq!((answers, text, keys), ([LENT; 4], [LENT; TEXT], [LENT; KEYS]));
     }
 }

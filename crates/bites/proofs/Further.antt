@@ -8,7 +8,7 @@ use lib.Dec.{leb}
 use Rattle.protocol.specs.Words.{pick, bit, allFrom, table, times, allBelow}
 use Rattle.protocol.specs.Slots.{number, view, contents}
 use Rattle.protocol.specs.Setup.{legalActor, legalActors, legal, freshWith}
-use Rattle.protocol.specs.Broken.{slotsFine, setupFine, rowsFine, upFine, linksFine, viewFine, queueFine, messageFine, repairFine, entryFine, recordsFine, updatesFine, contentsFine, sameLinks, heldLinksFine, viewlinksFine, jobsFine, placesFine, wholeOf, brokenOf}
+use Rattle.protocol.specs.Broken.{slotsFine, setupFine, rowsFine, storeFine, linksFine, viewFine, queueFine, messageFine, repairFine, entryFine, recordsFine, updatesFine, contentsFine, sameLinks, heldLinksFine, viewlinksFine, jobsFine, placesFine, wholeOf, brokenOf}
 use Rattle.protocol.specs.Closed.{closedOf}
 use Rattle.protocol.specs.declared.State.{State}
 use Rattle.protocol.specs.Send.{causesKnown, sendNo, sent}
@@ -140,7 +140,7 @@ breaks-every-walk steps h a c =
     record { made = made; answered = answered; unclosed = unclosed; refuted = λ law. true≢false (sym (law M legal-M steps 0 made .closed answered 0 SentReach.here) ∙ unclosed) }
 
 pub bites-further : BitesFurther
-unfolding allFrom table times allBelow legalActor legalActors legal freshWith slotsFine setupFine rowsFine upFine linksFine viewFine queueFine messageFine repairFine entryFine recordsFine updatesFine contentsFine sameLinks heldLinksFine viewlinksFine jobsFine placesFine wholeOf brokenOf closedOf causesKnown sendNo sent receiveNo receivedOf preCheckNo preChecked sendRecordNo recordSent timeoutNo timedOut takeRecordNo recordTaken takeAckNo ackTaken postCheckNo postChecked takeRepairNo repairTaken sendUpdateNo updateSent takeUpdateNo updateTaken takeUackNo uackTaken expireNo expired loseNo lost crashNo crashed restartNo restarted lowest jobStep entryStep turnOf foundOf receiptOf hopOf each visitOf acceptedInto ruled ranRuled ackedRuled courseRuled wholeAlong acceptedAgain emptied wiped resent reopened heldOnly visitHeld
+unfolding allFrom table times allBelow legalActor legalActors legal freshWith slotsFine setupFine rowsFine linksFine viewFine queueFine messageFine repairFine entryFine recordsFine updatesFine contentsFine sameLinks heldLinksFine viewlinksFine storeFine jobsFine placesFine wholeOf brokenOf closedOf causesKnown sendNo sent receiveNo receivedOf preCheckNo preChecked sendRecordNo recordSent timeoutNo timedOut takeRecordNo recordTaken takeAckNo ackTaken postCheckNo postChecked takeRepairNo repairTaken sendUpdateNo updateSent takeUpdateNo updateTaken takeUackNo uackTaken expireNo expired loseNo lost crashNo crashed restartNo restarted lowest jobStep entryStep turnOf foundOf receiptOf hopOf each visitOf acceptedInto ruled ranRuled ackedRuled courseRuled wholeAlong acceptedAgain emptied wiped resent reopened heldOnly visitHeld
 bites-further =
     record {
       atMostOne = at-most-one-right;

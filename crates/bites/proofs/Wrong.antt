@@ -9,7 +9,7 @@ use lib.ListN.{getD}
 use Rattle.protocol.specs.Words.{bit, allFrom, table, times, allBelow}
 use Rattle.protocol.specs.Slots.{number, view, viewlink}
 use Rattle.protocol.specs.Setup.{legalActor, legalActors, legal, freshWith}
-use Rattle.protocol.specs.Broken.{slotsFine, setupFine, rowsFine, upFine, linksFine, viewFine, queueFine, messageFine, repairFine, entryFine, recordsFine, updatesFine, contentsFine, sameLinks, heldLinksFine, viewlinksFine, jobsFine, placesFine, wholeOf, brokenOf}
+use Rattle.protocol.specs.Broken.{slotsFine, setupFine, rowsFine, linksFine, viewFine, queueFine, messageFine, repairFine, entryFine, recordsFine, updatesFine, contentsFine, sameLinks, heldLinksFine, viewlinksFine, storeFine, jobsFine, placesFine, wholeOf, brokenOf}
 use Rattle.protocol.specs.Closed.{closedOf}
 use Rattle.protocol.specs.declared.State.{State}
 use Rattle.protocol.specs.Send.{causesKnown, sendNo, sent}
@@ -113,7 +113,7 @@ breaks-cause-links rules steps step p q link w z a c b e n =
     }
 
 pub bites : Bites
-unfolding allFrom table times allBelow legalActor legalActors legal freshWith slotsFine setupFine rowsFine upFine linksFine viewFine queueFine messageFine repairFine entryFine recordsFine updatesFine contentsFine sameLinks heldLinksFine viewlinksFine jobsFine placesFine wholeOf brokenOf closedOf causesKnown sendNo sent receiveNo receivedOf preCheckNo preChecked sendRecordNo recordSent timeoutNo timedOut takeRecordNo recordTaken takeAckNo ackTaken postCheckNo postChecked takeRepairNo repairTaken sendUpdateNo updateSent takeUpdateNo updateTaken takeUackNo uackTaken expireNo expired loseNo lost crashNo crashed restartNo restarted acceptedInto ruled ranRuled ackedRuled wholeAlong overwritten finishedEarly oneRedirected unchecked acceptedLate
+unfolding allFrom table times allBelow legalActor legalActors legal freshWith slotsFine setupFine rowsFine linksFine viewFine queueFine messageFine repairFine entryFine recordsFine updatesFine contentsFine sameLinks heldLinksFine viewlinksFine storeFine jobsFine placesFine wholeOf brokenOf closedOf causesKnown sendNo sent receiveNo receivedOf preCheckNo preChecked sendRecordNo recordSent timeoutNo timedOut takeRecordNo recordTaken takeAckNo ackTaken postCheckNo postChecked takeRepairNo repairTaken sendUpdateNo updateSent takeUpdateNo updateTaken takeUackNo uackTaken expireNo expired loseNo lost crashNo crashed restartNo restarted acceptedInto ruled ranRuled ackedRuled wholeAlong overwritten finishedEarly oneRedirected unchecked acceptedLate
 bites =
     record {
       causeLinks = cause-links-right;

@@ -16,7 +16,7 @@ use Rattle.protocol.specs.declared.Status.the-variants.{ToSend}
 use Rattle.protocol.specs.declared.Drained.{Drained}
 use Rattle.protocol.specs.declared.Met.{Met}
 use Rattle.protocol.specs.declared.Walked.{Walked}
-use Rattle.protocol.specs.Rule.{phased}
+use Rattle.protocol.specs.Views.{phased}
 use Rattle.protocol.specs.TakeAck.{ackedView, ackTaken}
 use Rattle.protocol.specs.SendUpdate.{inStatus}
 use Rattle.protocol.specs.Crash.{crashed}
@@ -27,7 +27,7 @@ use Rattle.protocol.specs.declared.Step.{Step}
 use Rattle.protocol.specs.declared.Step.the-variants.{Send, Receive, SendRecord, Timeout, TakeRecord, TakeAck, PostCheck, Crash, Restart}
 use Rattle.protocol.specs.Run.{freshOf}
 use Rattle.protocol.specs.Drain.{allUp, course, drained, drainOf}
-use Rattle.protocol.specs.Walk.{added, spoiled, causesHeld, hopOf, each, visitOf, unmet, refusedWalk, answerOf}
+use Rattle.protocol.specs.Walk.{added, spoiled, lookedUp, causesHeld, each, toCause, visitOf, unmet, refusedWalk, answerOf}
 use Rattle.reaches.specs.Reaches.{keysOf}
 use Rattle.guarantees.specs.Acknowledged.{after}
 use Rattle.guarantees.specs.Guarantees.{DrainedBy, SentReach, WalkedBy, AnsweredBy}
@@ -132,8 +132,7 @@ heldOnly m k link = not (eqb link 0) && contents m (link - 1) (number k 0) .held
 unfoldable pub visitHeld : ℕ → State → ℕ → ℕ → Met → Met
 visitHeld zero m k link w = w
 visitHeld (suc depth) m k link w =
-    let onward = each (λ j. visitHeld depth m j (hopOf m k link j)) (causesHeld m k link) k 0 (added w k) in
-    pick (not (w .fine)) w (pick (getD (w .met) k false) w (pick (heldOnly m k link) onward (spoiled w)))
+    pick (heldOnly m k link) (each (toCause (visitHeld depth m) m k link) (causesHeld m k link) k 0 (added (lookedUp w) k)) (spoiled w)
 
 unfoldable pub openWalk : State → ℕ → Walked
 openWalk m k =

@@ -5,7 +5,7 @@ use mathlib.Core.Bool.{true}
 use mathlib.Core.List.{List, [], _∷_, _++_}
 use lib.ListN.{length, getD}
 use Rattle.protocol.specs.Words.{pick, bit}
-use Rattle.protocol.specs.Slots.{number, view, viewlink}
+use Rattle.protocol.specs.Slots.{number, view, lastingViewlink as viewlink}
 use Rattle.protocol.specs.Setup.{answered}
 use Rattle.protocol.specs.Broken.{brokenOf}
 use Rattle.protocol.specs.Closed.{closedOf}

@@ -10,7 +10,8 @@ use Rattle.protocol.specs.Slots.{number, view, entry, viewlink}
 use Rattle.protocol.specs.Writes.{withView, withEntry, withViewlink}
 use Rattle.protocol.specs.Closed.{closedOf}
 use Rattle.protocol.specs.declared.State.{State}
-use Rattle.protocol.specs.Rule.{head, headView, phased}
+use Rattle.protocol.specs.Views.{phased}
+use Rattle.protocol.specs.Rule.{head, headView}
 use Rattle.protocol.specs.TakeRecord.{recordTaken}
 use Rattle.protocol.specs.TakeAck.{ackedView, ackTaken}
 use Rattle.protocol.specs.TakeRepair.{repairTaken}

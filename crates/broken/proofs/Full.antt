@@ -10,7 +10,7 @@ pub record Full (m : State) : Type 0 where
   pub homes : length (m .homes) ≡ 8
   pub lists : length (m .lists) ≡ 8
   pub queues : length (m .queues) ≡ 8
-  pub up : length (m .up) ≡ 8
+  pub shelves : length (m .shelves) ≡ 8
   pub messages : length (m .messages) ≡ 16
   pub views : length (m .views) ≡ 32
   pub repairs : length (m .repairs) ≡ 32
@@ -21,7 +21,6 @@ pub record Full (m : State) : Type 0 where
   pub uacks : length (m .uacks) ≡ 256
   pub contents : length (m .contents) ≡ 256
   pub links : length (m .links) ≡ 128
-  pub viewlinks : length (m .viewlinks) ≡ 256
 
 pub full-slots : (m : State) → Full m → slotsFine m ≡ true
 unfolding slotsFine
@@ -30,7 +29,7 @@ full-slots m h =
       eq-eqb _ _ (h .homes),
       eq-eqb _ _ (h .lists),
       eq-eqb _ _ (h .queues),
-      eq-eqb _ _ (h .up),
+      eq-eqb _ _ (h .shelves),
       eq-eqb _ _ (h .messages),
       eq-eqb _ _ (h .views),
       eq-eqb _ _ (h .repairs),
@@ -41,5 +40,4 @@ full-slots m h =
       eq-eqb _ _ (h .uacks),
       eq-eqb _ _ (h .contents),
       eq-eqb _ _ (h .links),
-      eq-eqb _ _ (h .viewlinks),
     )

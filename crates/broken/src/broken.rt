@@ -64,7 +64,7 @@ fn places_fine(m: State) -> bool
     let uacks = m.uacks;
     let contents = m.contents;
     let links = m.links;
-    let viewlinks = m.viewlinks;
+    let shelves = m.shelves;
     let recorded = both(
         flight::records_fine(m.stores, vs, records),
         flight::records_fine(m.stores, vs, acks),
@@ -75,7 +75,7 @@ fn places_fine(m: State) -> bool
     );
     let filled = both(updated, held::all_contents_fine(m.stores, vs, contents));
     let linked = both(filled, held::held_links_fine(contents, vs, links));
-    both(linked, held::viewlinks_fine(m.stores, m.made, viewlinks))
+    both(linked, held::stores_fine(m.stores, m.made, shelves))
 }
 
 fn whole(m: State) -> bool
@@ -83,14 +83,12 @@ fn whole(m: State) -> bool
 {
     let homes = m.homes;
     let lists = m.lists;
-    let up = m.up;
     let begun = both(m.made <= 16, setup_fine(m.stores, m.actors, homes, lists));
     let rows = both(
         both(begun, queues::rows_fine(m.actors, homes)),
         queues::rows_fine(m.actors, lists),
     );
-    let flags = both(rows, queues::up_fine(m.stores, up));
-    both(both(flags, jobs_fine(m)), places_fine(m))
+    both(both(rows, jobs_fine(m)), places_fine(m))
 }
 
 // True exactly where a clause says so, for every value.

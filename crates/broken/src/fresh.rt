@@ -8,14 +8,15 @@ use protocol::Queue;
 use protocol::Repair;
 use protocol::State;
 use protocol::Status;
-use protocol::View;
+use protocol::Store;
+use protocol::unset_view;
 ghost use mathlib.Core.Path.{_≡_};
 ghost use mathlib.Core.Bool.{_||_};
 ghost use Prim.Native.Nat.{_≤_};
 ghost use lib.Dec.{leb, ltb};
 ghost use Rattle.protocol.specs.Words.{pick, table};
 ghost use Rattle.protocol.specs.Slots.{noMessage, noRepair, noEntry, noContents};
-ghost use Rattle.protocol.specs.Setup.{storesIn, legalActor, legalActors, legal, blankView, blankQueue, ofActors, freshWith, emptyMachine};
+ghost use Rattle.protocol.specs.Setup.{storesIn, legalActor, legalActors, legal, blankQueue, freshStore, ofActors, freshWith, emptyMachine};
 
 // How many stores a list has.
 fn stores_in(list: u8) -> u8
@@ -114,16 +115,28 @@ fn rows(actors: u8, l: [u8; 8]) -> [u8; 8]
     kept
 }
 
-fn all_up(stores: u8) -> [bool; 8]
-    ensures { λ r. ⌜ r ≡ table (λ p. ltb p stores) 8 ⌝ }
+// Nothing held.
+fn fresh_store(up: bool) -> Store
+    ensures { λ r. ⌜ r ≡ freshStore up ⌝ }
 {
-    let mut up = [false; 8];
-    let mut i: usize = 0;
-    while i < 8 {
-        up[i] = i < stores as usize;
-        i += 1;
+    Store {
+        up: up,
+        viewlinks: [0; 32],
     }
-    up
+}
+
+fn fresh_stores(stores: u8) -> [Store; 8]
+    ensures { λ r. ⌜ r ≡ table (λ p. freshStore (ltb p stores)) 8 ⌝ }
+{
+    let down = fresh_store(false);
+    let mut shelves = [down; 8];
+    let mut p: usize = 0;
+    while p < 8 {
+        let s = fresh_store(p < stores as usize);
+        shelves[p] = s;
+        p += 1;
+    }
+    shelves
 }
 
 // A blank of each kind of slot.
@@ -133,21 +146,6 @@ fn blank_queue() -> Queue
     Queue {
         len: 0,
         views: [0; 16],
-    }
-}
-
-fn blank_view() -> View
-    ensures { λ r. ⌜ r ≡ blankView ⌝ }
-{
-    View {
-        actor: 0,
-        phase: 0,
-        store: 0,
-        viewlink: 0,
-        changed: false,
-        causes: 0,
-        word: 0,
-        links: [0; 16],
     }
 }
 
@@ -197,7 +195,7 @@ pub fn fresh(stores: u8, actors: u8, homes: [u8; 8], lists: [u8; 8]) -> State
 {
     let queue = blank_queue();
     let message = no_message();
-    let view = blank_view();
+    let view = unset_view(0);
     let repair = no_repair();
     let entry = no_entry();
     let contents = no_contents();
@@ -209,7 +207,7 @@ pub fn fresh(stores: u8, actors: u8, homes: [u8; 8], lists: [u8; 8]) -> State
         homes: rows(actors, homes),
         lists: rows(actors, lists),
         queues: [queue; 8],
-        up: all_up(stores),
+        shelves: fresh_stores(stores),
         messages: [message; 16],
         views: [view; 32],
         repairs: [repair; 32],
@@ -220,7 +218,6 @@ pub fn fresh(stores: u8, actors: u8, homes: [u8; 8], lists: [u8; 8]) -> State
         uacks: [0; 256],
         contents: [contents; 256],
         links: [links; 128],
-        viewlinks: [0; 256],
     }
 }
 

@@ -1,16 +1,16 @@
-// What the stores hold and is not broken: contents, their cause links, and viewlinks.
+// The stores that are not broken and what they hold: contents, their cause links, and viewlinks.
 
 use super::broken::both;
-use super::places::past_blank;
 use protocol::Contents;
 use protocol::Links;
+use protocol::Store;
 use protocol::View;
 ghost use mathlib.Core.Path.{_≡_};
-ghost use mathlib.Core.Bool.{_&&_};
-ghost use lib.Dec.{eqb};
+ghost use mathlib.Core.Bool.{_&&_, _||_, not};
+ghost use lib.Dec.{eqb, ltb};
 ghost use lib.ListN.{length};
 ghost use Rattle.protocol.specs.Words.{pick, all};
-ghost use Rattle.protocol.specs.Broken.{sameContents, blankContents, contentsFine, sameLinks, heldLinksFine, viewlinkFine, viewlinksFine};
+ghost use Rattle.protocol.specs.Broken.{sameContents, blankContents, contentsFine, sameLinks, heldLinksFine, viewlinkFine, viewlinksFine, storeFine};
 
 // Contents are those of the view's record, at a store that is there.
 fn same_contents(stores: u8, w: View, at: usize, c: Contents) -> bool
@@ -120,8 +120,8 @@ pub(crate) fn held_links_fine(
     true
 }
 
-fn viewlink_fine(stores: u8, made: u8, at: usize, l: u8) -> bool
-    ensures { λ r. ⌜ r ≡ viewlinkFine stores made at l ⌝ }
+fn viewlink_fine(stores: u8, made: u8, p: usize, v: usize, l: u8) -> bool
+    ensures { λ r. ⌜ r ≡ viewlinkFine stores made p v l ⌝ }
 {
     if l == 0 {
         return true;
@@ -129,24 +129,71 @@ fn viewlink_fine(stores: u8, made: u8, at: usize, l: u8) -> bool
     if stores < l {
         return false;
     }
-    both(at / 32 < stores as usize, at % 32 < (made as usize) * 2)
+    both(p < stores as usize, v < (made as usize) * 2)
 }
 
-pub(crate) fn viewlinks_fine(stores: u8, made: u8, viewlinks: [u8; 256]) -> bool
-    ensures { λ r. ⌜ r ≡ viewlinksFine stores made viewlinks ⌝ }
+// This loop, too, leaves at no test.
+fn blank_row(links: [u8; 32]) -> bool
+    ensures { λ r. ⌜ r ≡ all (λ v link. eqb link 0) links ⌝ }
 {
-    let mut at: usize = 0;
-    while at < 256 {
-        let next = past_blank(&viewlinks, at);
-        if at < next {
-            at = next;
-        } else {
-            let fine = viewlink_fine(stores, made, at, viewlinks[at]);
-            if !fine {
-                return false;
-            }
-            at += 1;
+    let mut blank = true;
+    let mut v: usize = 0;
+    while v < 32 {
+        blank = both(blank, links[v] == 0);
+        v += 1;
+    }
+    blank
+}
+
+fn viewlinks_fine(stores: u8, made: u8, p: usize, links: [u8; 32]) -> bool
+    ensures { λ r. ⌜ r ≡ viewlinksFine stores made p links ⌝ }
+{
+    // Most stores have no link: then the thirty-two are tested at once.
+    if blank_row(links) {
+        return true;
+    }
+    let mut v: usize = 0;
+    while v < 32 {
+        let fine = viewlink_fine(stores, made, p, v, links[v]);
+        if !fine {
+            return false;
         }
+        v += 1;
+    }
+    true
+}
+
+// A store behind the last is not up.
+fn flag_fine(stores: u8, p: usize, up: bool) -> bool
+    ensures { λ r. ⌜ r ≡ (ltb p stores || not up) ⌝ }
+{
+    if p < stores as usize {
+        return true;
+    }
+    !up
+}
+
+fn store_fine(stores: u8, made: u8, p: usize, s: Store) -> bool
+    ensures { λ r. ⌜ r ≡ storeFine stores made p s ⌝ }
+{
+    let links = s.viewlinks;
+    both(
+        flag_fine(stores, p, s.up),
+        viewlinks_fine(stores, made, p, links),
+    )
+}
+
+pub(crate) fn stores_fine(stores: u8, made: u8, shelves: [Store; 8]) -> bool
+    ensures { λ r. ⌜ r ≡ all (storeFine stores made) shelves ⌝ }
+{
+    let mut p: usize = 0;
+    while p < 8 {
+        let s = shelves[p];
+        let fine = store_fine(stores, made, p, s);
+        if !fine {
+            return false;
+        }
+        p += 1;
     }
     true
 }

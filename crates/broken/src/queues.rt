@@ -1,13 +1,13 @@
-// The rows and queues that are not broken: what stands in a queue, and blanks behind the last actor and store.
+// The rows and queues that are not broken: what stands in a queue, and blanks behind the last actor.
 
 use super::broken::both;
 use protocol::Queue;
 use protocol::View;
 ghost use mathlib.Core.Path.{_≡_};
-ghost use mathlib.Core.Bool.{_&&_, _||_, not};
+ghost use mathlib.Core.Bool.{_&&_, _||_};
 ghost use lib.Dec.{eqb, ltb};
 ghost use Rattle.protocol.specs.Words.{pick, all};
-ghost use Rattle.protocol.specs.Broken.{rowsFine, upFine, waitsAt, standsFine, queueFine};
+ghost use Rattle.protocol.specs.Broken.{rowsFine, waitsAt, standsFine, queueFine};
 
 // What stands behind the last actor is blank.
 fn row_fine(actors: u8, a: usize, x: u8) -> bool
@@ -29,30 +29,6 @@ pub(crate) fn rows_fine(actors: u8, rows: [u8; 8]) -> bool
             return false;
         }
         a += 1;
-    }
-    true
-}
-
-// A store behind the last is not up.
-fn flag_fine(stores: u8, p: usize, up: bool) -> bool
-    ensures { λ r. ⌜ r ≡ (ltb p stores || not up) ⌝ }
-{
-    if p < stores as usize {
-        return true;
-    }
-    !up
-}
-
-pub(crate) fn up_fine(stores: u8, up: [bool; 8]) -> bool
-    ensures { λ r. ⌜ r ≡ upFine stores up ⌝ }
-{
-    let mut p: usize = 0;
-    while p < 8 {
-        let fine = flag_fine(stores, p, up[p]);
-        if !fine {
-            return false;
-        }
-        p += 1;
     }
     true
 }

@@ -11,7 +11,7 @@ ghost use lib.Dec.{eqb, ltb};
 ghost use lib.ListN.{take};
 ghost use Rattle.protocol.specs.Words.{all, one, times};
 ghost use Rattle.protocol.specs.Slots.{standing};
-ghost use Rattle.protocol.specs.Broken.{linkFine, linksFine, phaseFine, roleFine, madeView, waits, viewFine};
+ghost use Rattle.protocol.specs.Broken.{linkFine, linksFine, isUnset, phaseFine, roleFine, madeView, waits, viewFine};
 
 fn link_fine(stores: u8, key: usize, causes: u16, j: usize, link: u8) -> bool
     requires { ⌜ j < 16 ⌝ }
@@ -46,7 +46,7 @@ fn links_fine(stores: u8, key: usize, causes: u16, links: [u8; 16]) -> bool
 
 // Nothing but the actor is set.
 fn unset(w: View) -> bool
-    ensures { λ r. ⌜ r ≡ (eqb (w .store) 0 && eqb (w .viewlink) 0 && not (w .changed) && eqb (w .causes) 0 && eqb (w .word) 0) ⌝ }
+    ensures { λ r. ⌜ r ≡ isUnset w ⌝ }
 {
     let nowhere = both(w.store == 0, w.viewlink == 0);
     let kept = both(nowhere, !w.changed);

@@ -18,8 +18,8 @@ pub fn drain(m: State) -> Drained
             count: 0,
         };
     }
-    let up = m.up;
-    if !turns::all_up(m.stores, up) {
+    let shelves = m.shelves;
+    if !turns::all_up(m.stores, shelves) {
         return Drained {
             state: m,
             answer: 5,

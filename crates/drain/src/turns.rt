@@ -18,6 +18,7 @@ use protocol::Repair;
 use protocol::State;
 use protocol::Status;
 use protocol::Step;
+use protocol::Store;
 use protocol::Turn;
 use protocol::View;
 
@@ -291,21 +292,22 @@ fn turn(m: State) -> Turn
 }
 
 // A store of the machine is up; behind the last there is none.
-fn is_up(stores: u8, p: usize, up: bool) -> bool
-    ensures { λ r. ⌜ r ≡ upIn stores p up ⌝ }
+fn is_up(stores: u8, p: usize, s: Store) -> bool
+    ensures { λ r. ⌜ r ≡ upIn stores p s ⌝ }
 {
     if stores as usize <= p {
         return true;
     }
-    up
+    s.up
 }
 
-pub(crate) fn all_up(stores: u8, up: [bool; 8]) -> bool
-    ensures { λ r. ⌜ r ≡ all (upIn stores) up ⌝ }
+pub(crate) fn all_up(stores: u8, shelves: [Store; 8]) -> bool
+    ensures { λ r. ⌜ r ≡ all (upIn stores) shelves ⌝ }
 {
     let mut p: usize = 0;
     while p < 8 {
-        let ready = is_up(stores, p, up[p]);
+        let s = shelves[p];
+        let ready = is_up(stores, p, s);
         if !ready {
             return false;
         }

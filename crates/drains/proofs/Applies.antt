@@ -8,7 +8,7 @@ use native.Mathlib.Omega.{arith}
 use lib.Dec.{leb}
 use borrow.Author.Tests.{not-true, leb-false, lt-leb}
 use Rattle.protocol.specs.Words.{pick, allBelow}
-use Rattle.protocol.specs.Slots.{isUp}
+use Rattle.protocol.specs.Slots.{noStore, shelf, isUp}
 use Rattle.protocol.specs.Broken.{brokenOf}
 use Rattle.protocol.specs.declared.State.{State}
 use Rattle.protocol.specs.declared.Drained.{Drained}
@@ -47,9 +47,9 @@ module _ (m : State) where
   -- a store that is down is one of eight
   finds-down : brokenOf m ≡ false → allUp m ≡ false → (p : ℕ) × (p < m .stores) × (isUp m p ≡ false)
   finds-down b e =
-      let long = slots m b .sized .up in
-      let up : ℕ → Bool = λ p. upIn (m .stores) p (isUp m p) in
-      let x = below-fails 8 up (by-test (allBelow 8 up) (λ h. not-both (allUp m) (all-each (upIn (m .stores)) (m .up) false (λ p l. below-at 8 up h p (omega arith))) e) (λ h. h)) in
+      let long = slots m b .sized .shelves in
+      let up : ℕ → Bool = λ p. upIn (m .stores) p (shelf m p) in
+      let x = below-fails 8 up (by-test (allBelow 8 up) (λ h. not-both (allUp m) (all-each (upIn (m .stores)) (m .shelves) noStore (λ p l. below-at 8 up h p (omega arith))) e) (λ h. h)) in
       (x .0, leb-false (m .stores) (x .0) (nor-left (leb (m .stores) (x .0)) (isUp m (x .0)) (x .2)), nor-right (leb (m .stores) (x .0)) (isUp m (x .0)) (x .2))
 
   told-down : {n : ℕ} → brokenOf m ≡ false → Applies m n → n ≡ 5 → allUp m ≡ false
@@ -57,8 +57,8 @@ module _ (m : State) where
   told-down b (isDown p l e) q =
       let s = slots m b in
       let h = store-8 m s p l in
-      let long = s .sized .up in
-      by-test (allUp m) (λ u. not-both (isUp m p) (or-else (leb (m .stores) p) (isUp m p) (all-at (upIn (m .stores)) (m .up) false u p (omega arith)) (lt-leb (m .stores) p l)) e) (λ u. u)
+      let long = s .sized .shelves in
+      by-test (allUp m) (λ u. not-both (isUp m p) (or-else (leb (m .stores) p) (isUp m p) (all-at (upIn (m .stores)) (m .shelves) noStore u p (omega arith)) (lt-leb (m .stores) p l)) e) (λ u. u)
 
 pub drain-refusals : DrainRefusals
 unfolding drainOf

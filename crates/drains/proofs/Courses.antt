@@ -14,6 +14,7 @@ use Rattle.protocol.specs.Setup.{answered}
 use Rattle.unbroken.specs.Unbroken.{Unbroken}
 use Rattle.protocol.specs.Broken.{brokenOf}
 use Rattle.protocol.specs.declared.State.{State}
+use Rattle.protocol.specs.declared.View.{View}
 use Rattle.unbroken.proofs.Laws.{unbroken}
 use Rattle.protocol.specs.Step.{numberOf, afterOf, ruleOf, stepOf}
 use Rattle.protocol.specs.declared.Step.{Step}
@@ -60,7 +61,7 @@ regular : (m : State) → Unbroken m → (v : ℕ) → v < m .made * 2 → Regul
 unfolding seenOf
 regular m w v h =
     record {
-      fresh = w .changedUnset v (omega (arith, w .made16));
+      fresh = λ e. ap (λ (x : View). x .changed) (w .viewUnset v (omega (arith, w .made16)) e);
       entered = λ e. w .entrySettled v (omega (arith, w .made16)) (some (eqb-false (statusNumber (entry m v .status)) 0 (not-true (eqb (statusNumber (entry m v .status)) 0) e)));
     }
   where
@@ -79,7 +80,7 @@ takes m s d e =
     record {
       number = l .taken;
       step = step-taken m s (d .unbroken) (l .taken);
-      drainable = record { unbroken = keeps m s (d .unbroken) (l .taken); up = rw (l .up, l .stores) (d .up) };
+      drainable = record { unbroken = keeps m s (d .unbroken) (l .taken); up = l .up ∙ d .up };
       made = l .made;
     }
 

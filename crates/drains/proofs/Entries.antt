@@ -3,14 +3,15 @@
 use Prim.Native.Nat.{ℕ, _-_, _*_, _≤_, _<_}
 use mathlib.Core.Path.{_≡_, refl}
 use mathlib.Core.Logic.{_≢_}
-use mathlib.Core.Bool.{Bool, true, false, not, true≢false}
+use mathlib.Core.Bool.{Bool, true, false, _||_, not, true≢false}
 use native.Mathlib.Omega.{arith}
-use lib.Dec.{eqb}
+use lib.Dec.{eqb, leb}
 use lib.ListN.{length, set, length-set}
 use lib.Seq.{getD-set-same, getD-set-other}
 use borrow.Author.Tests.{eq-eqb, lt-leb}
 use Rattle.protocol.specs.Slots.{number, place, noRepair, noEntry, statusNumber, isUp, view, repair, entry, updateCopies, uackCopies}
 use Rattle.unbroken.specs.Unbroken.{Unbroken}
+use Rattle.unbroken.proofs.Shelves.{linked-all}
 use Rattle.protocol.specs.declared.State.{State}
 use Rattle.protocol.specs.declared.Entry.{Entry}
 use Rattle.protocol.specs.declared.Status.{Status}
@@ -218,7 +219,7 @@ module _ (m : State) (w : Unbroken m) (v : ℕ) (hv : v < m .made * 2) where
                   getD-set-other (m .uacks) (place p v) (place (entry m u .destination) u) d 0 (elsewhere u l e),
                 ))
                 (takeUpdate-lowers t none (s .changed) (s .ack) (s .sent) _);
-            up = refl;
+            up = linked-all (m .shelves) p (number (keyOf v) (1 - roleOf v)) _ (λ q b. leb (m .stores) q || b);
             stores = refl;
             made = refl;
           }

@@ -3,9 +3,9 @@
 use Prim.Native.Nat.{ℕ, _+_, _-_, _*_, _≤_, _<_}
 use mathlib.Core.Path.{_≡_, refl, ap, _∙_}
 use mathlib.Core.Logic.{_≢_}
-use mathlib.Core.Bool.{Bool, true, false, not}
+use mathlib.Core.Bool.{Bool, true, false, _||_, not}
 use native.Mathlib.Omega.{arith}
-use lib.Dec.{eqb, ltb}
+use lib.Dec.{eqb, ltb, leb}
 use lib.ListN.{length}
 use lib.Seq.{getD-set-same, getD-set-other}
 use borrow.Author.Tests.{eq-eqb, ne-eqb, lt-leb, ltb-false}
@@ -13,10 +13,12 @@ use Rattle.protocol.specs.Words.{pick, bit}
 use Rattle.protocol.specs.Slots.{number, place, noView, noRepair, isUp, list, queue, view, repair, recordCopies, ackCopies}
 use Rattle.protocol.specs.Writes.{withView, withRecordCopies, withAckCopies}
 use Rattle.unbroken.specs.Unbroken.{Unbroken}
+use Rattle.unbroken.proofs.Shelves.{linked-all}
 use Rattle.protocol.specs.declared.State.{State}
 use Rattle.protocol.specs.declared.View.{View}
 use Rattle.protocol.specs.declared.Repair.{Repair}
-use Rattle.protocol.specs.Rule.{head, phased, more}
+use Rattle.protocol.specs.Views.{phased}
+use Rattle.protocol.specs.Rule.{head, more}
 use Rattle.protocol.specs.Receive.{receiveNo, receivedOf, receivedView}
 use Rattle.protocol.specs.PreCheck.{preCheckNo, preChecked, checkedView}
 use Rattle.protocol.specs.SendRecord.{sendRecordNo, recordSent}
@@ -27,15 +29,15 @@ use Rattle.protocol.specs.PostCheck.{postCheckNo, postChecked, askedRepair}
 use Rattle.protocol.specs.Step.{numberOf, afterOf}
 use Rattle.protocol.specs.declared.Step.{Step}
 use Rattle.protocol.specs.declared.Step.the-variants.{Receive, PreCheck, SendRecord, Timeout, TakeRecord, TakeAck, PostCheck}
-use Rattle.protocol.specs.Drain.{keyOf, roleOf}
+use Rattle.protocol.specs.Drain.{keyOf, roleOf, allUp}
 use Rattle.drains.proofs.StepsLeft.{Seen, seen, receive-lowers, preCheck-lowers, sendRecord-lowers, timeout-lowers, takeRecord-lowers, takeAck-lowers, postCheck-lowers}
 use Rattle.drains.proofs.Total.{seenOf, total, total-falls, opposite}
 
--- a step of the drain that is taken and leaves one step less, with the stores as they were
+-- a step of the drain that is taken and leaves one step less, with the stores as up as they were
 pub record Lowers (m : State) (s : Step) : Type 0 where
   pub taken : numberOf m s ≡ 0
   pub lower : total (afterOf m s) < total m
-  pub up : afterOf m s .up ≡ m .up
+  pub up : allUp (afterOf m s) ≡ allUp m
   pub stores : afterOf m s .stores ≡ m .stores
   pub made : afterOf m s .made ≡ m .made
 
@@ -128,7 +130,7 @@ receive-good m w k hk h =
     let hv : number k 1 < m .made * 2 = omega arith in
     let x = receivedView m k in
     let s = me m w v hv in
-    let before : s ≡ seen 0 false (s .repair) (s .status) (s .ack) (s .sent) (s .uack) (s .update) = rw (h, w .changedUnset v (in32 m w hv) h) in
+    let before : s ≡ seen 0 false (s .repair) (s .status) (s .ack) (s .sent) (s .uack) (s .update) = rw (h, ap (λ (y : View). y .changed) (w .viewUnset v (in32 m w hv) h)) in
     record {
       taken = rw (lt-leb (m .made) k hk, eq-eqb (view m v .phase) 0 h);
       lower = total-falls m (receivedOf m k) refl v hv _ _ before (seen-view m w v hv x) (view-far m w v hv x)
@@ -238,7 +240,7 @@ module _ (m : State) (w : Unbroken m) (a : ℕ) (ha : a < m .actors) (some : que
             taken = rw (lt-leb (m .stores) (view m v .store) (inStores (omega arith)), lt-leb (m .made) (keyOf v) (omega arith), lt-leb 2 (roleOf v) (omega arith), same-number v, there);
             lower = rw e (total-falls m (withAckCopies (withView m v x) (x .store) v c) refl v hv _ _ before (seen-ack m w v hv x c at) (ack-far m w v hv x c at)
                 (takeAck-lowers _ (s .repair) (s .status) (s .uack) (s .update) (s .changed) (s .sent) _));
-            up = ap (λ (n : State). n .up) e;
+            up = ap allUp e;
             stores = ap (λ (n : State). n .stores) e;
             made = ap (λ (n : State). n .made) e;
           }
@@ -263,7 +265,7 @@ module _ (m : State) (w : Unbroken m) (a : ℕ) (ha : a < m .actors) (some : que
                 let o = place-other p v (view m u .store) u (in32 m w hv) (in32 m w l) n in
                 rw (same-number v, getD-set-other (m .records) (place p v) (place (view m u .store) u) c 0 o, getD-set-other (m .acks) (place p v) (place (view m u .store) u) d 0 o))
                 (takeRecord-lowers _ (s .repair) (s .status) (s .uack) (s .update) (s .changed) _);
-            up = refl;
+            up = linked-all (m .shelves) p (number (keyOf v) (roleOf v)) _ (λ q b. leb (m .stores) q || b);
             stores = refl;
             made = refl;
           }

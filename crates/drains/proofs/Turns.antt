@@ -10,7 +10,7 @@ use lib.Dec.{eqb, ltb, leb}
 use lib.ListN.{getD, List·getD-eq-default}
 use borrow.Author.Tests.{lt-leb, ltb-true, ltb-false, eqb-true, eqb-false, not-true, not-false}
 use Rattle.protocol.specs.Words.{pick, bit, times}
-use Rattle.protocol.specs.Slots.{number, noView, statusNumber, isUp, list, queue, view, repair, entry, recordCopies, ackCopies, updateCopies, uackCopies}
+use Rattle.protocol.specs.Slots.{number, noView, noStore, statusNumber, isUp, list, queue, view, repair, entry, recordCopies, ackCopies, updateCopies, uackCopies}
 use Rattle.unbroken.specs.EverySlot.{SetupKind, none, some, LegalActor}
 use Rattle.unbroken.specs.Unbroken.{Unbroken}
 use Rattle.protocol.specs.Closed.{closedOf, restsOf}
@@ -19,7 +19,7 @@ use Rattle.unbroken.proofs.Laws.Tests.{and-left, and-right, and-both, or-else, 
 use Rattle.unbroken.proofs.Laws.Every.{all-at}
 use Rattle.protocol.specs.Rule.{head}
 use Rattle.protocol.specs.declared.Step.the-variants.{Receive, PreCheck, SendRecord, Timeout, TakeRecord, TakeAck, PostCheck, TakeRepair, SendUpdate, TakeUpdate, TakeUack, Expire}
-use Rattle.protocol.specs.Drain.{keyOf, roleOf, unreceived, busy, spare, jobStep, repairDue, unfinished, entryDue, entryStep, turnOf, allUp}
+use Rattle.protocol.specs.Drain.{keyOf, roleOf, unreceived, busy, spare, jobStep, repairDue, unfinished, entryDue, entryStep, turnOf, upIn, allUp}
 use Rattle.protocol.specs.declared.Turn.{Turn}
 use Rattle.protocol.specs.declared.Turn.the-variants.{Take, Rest}
 use Rattle.drains.proofs.Lowest.{finds}
@@ -94,7 +94,7 @@ module _ (m : State) (w : Unbroken m) where
     isUp-at : (p : ℕ) → p < m .stores → isUp m p ≡ true
     isUp-at p h =
         or-else (leb (m .stores) p) (isUp m p)
-        (all-at (λ p up. leb (m .stores) p || up) (m .up) false up p (omega (arith, stores8, w .sized .up)))
+        (all-at (upIn (m .stores)) (m .shelves) noStore up p (omega (arith, stores8, w .sized .shelves)))
         (lt-leb (m .stores) p h)
 
     -- (b) the head of a queue

@@ -20,7 +20,7 @@ use Rattle.protocol.specs.declared.Drained.{Drained}
 use Rattle.drains.specs.Drains.{Ends, stepsOf}
 use Rattle.drains.proofs.Courses.{drain-ends}
 use Rattle.guarantees.specs.Acknowledged.{Legal, after}
-use Rattle.guarantees.specs.Guarantees.{TheDrain, BookRun, Books, EveryCall}
+use Rattle.guarantees.specs.Guarantees.{TheDrain, BookRun, Books, EveryCall, AnyCall}
 use Rattle.guarantees.proofs.Heads.{pick-zero}
 use Rattle.guarantees.proofs.Demand.{reached}
 use Rattle.reads.proofs.Some.{ran-append}
@@ -81,5 +81,7 @@ every-call =
       buffer = λ book buffer. only _;
       refused = λ n. only _;
       listing = λ m steps taken. only _;
-      any = λ d. only d;
     }
+
+pub any-call : AnyCall
+any-call A d = only d

@@ -16,7 +16,8 @@ use Rattle.unbroken.specs.Unbroken.{Unbroken}
 use Rattle.unbroken.specs.Bounds.{Bounds}
 use Rattle.protocol.specs.declared.State.{State}
 use Rattle.protocol.specs.declared.Queue.{Queue}
-use Rattle.protocol.specs.Rule.{head, headView, phased}
+use Rattle.protocol.specs.Views.{phased}
+use Rattle.protocol.specs.Rule.{head, headView}
 use Rattle.protocol.specs.Send.{sent, joined}
 use Rattle.protocol.specs.Receive.{receivedOf}
 use Rattle.protocol.specs.PreCheck.{preChecked}

@@ -11,7 +11,9 @@ use lib.Dec.{leb}
 use lib.ListN.{length, replicate, length-append}
 use lib.Seq.{getD-set-same, getD-set-other}
 use Rattle.protocol.specs.Words.{pick}
-use Rattle.protocol.specs.Slots.{isUp}
+use Rattle.protocol.specs.Slots.{noStore, shelf, isUp}
+use Rattle.protocol.specs.Writes.{turned}
+use Rattle.protocol.specs.declared.Store.{Store}
 use Rattle.protocol.specs.declared.State.{State}
 use Rattle.protocol.specs.Outcome.{Outcome}
 use Rattle.unbroken.proofs.Laws.{unbroken}
@@ -31,6 +33,9 @@ use Rattle.guarantees.proofs.Reached.{Reached}
 use Rattle.guarantees.proofs.Acks.{run-reached}
 use Rattle.guarantees.proofs.Demand.{reached}
 use Rattle.guarantees.proofs.Drained.{the-drain}
+
+abbrev is-up : Store → Bool
+is-up s = s .up
 
 replicate-more : (n z : ℕ) → replicate n z ++ (z ∷ []) ≡ replicate (suc n) z
 replicate-more zero z = refl
@@ -71,7 +76,7 @@ module _ (m : State) (c : Reached m) where
         stores = ap (λ (y : State). y .stores) whole ∙ r .stores;
         made = ap (λ (y : State). y .made) whole ∙ r .made;
         up = λ p g. ap (λ (y : State). isUp y p) whole ∙ below p g (ℕ-discrete p n);
-        rest = λ p g. ap (λ (y : State). isUp y p) whole ∙ getD-set-other (ran m ss .up) n p true false (λ z. let q : ⊥ = omega arith in q) ∙ r .rest p (omega arith);
+        rest = λ p g. ap (λ (y : State). isUp y p) whole ∙ ap is-up (getD-set-other (ran m ss .shelves) n p (turned (shelf (ran m ss) n) true) noStore (λ z. let q : ⊥ = omega arith in q)) ∙ r .rest p (omega arith);
         few = rw (length-append ss (Restart n ∷ [])) (omega (arith, r .few));
         zeros = answers-append m ss (Restart n ∷ []) ∙ rw (r .zeros, ap (λ (a : Outcome). a .answer) x, length-append ss (Restart n ∷ []), add-one (length ss)) (replicate-more (length ss) 0);
       }
@@ -80,8 +85,8 @@ module _ (m : State) (c : Reached m) where
       below p g (yes y) =
           let d = run-reached m c ss in
           let z = unbroken (ran m ss) (d .fine) in
-          rw y (getD-set-same (ran m ss .up) n true false (omega (arith, z .sized .up, stores8 (ran m ss) z, r .stores)))
-      below p g (no y) = getD-set-other (ran m ss .up) n p true false y ∙ r .up p (omega arith)
+          rw y (ap is-up (getD-set-same (ran m ss .shelves) n (turned (shelf (ran m ss) n) true) noStore (omega (arith, z .sized .shelves, stores8 (ran m ss) z, r .stores))))
+      below p g (no y) = ap is-up (getD-set-other (ran m ss .shelves) n p (turned (shelf (ran m ss) n) true) noStore y) ∙ r .up p (omega arith)
 
   all-restarted : (n : ℕ) → n ≤ m .stores → Restarted m n (restartsBelow n m)
   unfolding restartsBelow ran answers
@@ -92,13 +97,13 @@ module _ (m : State) (c : Reached m) where
   everything-up =
       let r = all-restarted (m .stores) (omega arith) in
       let n = ran m (restarts m) in
-      all-each (upIn (n .stores)) (n .up) false (λ p h. at r p (decLt p (n .stores)))
+      all-each (upIn (n .stores)) (n .shelves) noStore (λ p h. at r p (decLt p (n .stores)))
     where
       or-true : (b : Bool) → (b || true) ≡ true
       or-true true = refl
       or-true false = refl
 
-      at : Restarted m (m .stores) (restarts m) → (p : ℕ) → Dec (p < ran m (restarts m) .stores) → upIn (ran m (restarts m) .stores) p (isUp (ran m (restarts m)) p) ≡ true
+      at : Restarted m (m .stores) (restarts m) → (p : ℕ) → Dec (p < ran m (restarts m) .stores) → upIn (ran m (restarts m) .stores) p (shelf (ran m (restarts m)) p) ≡ true
       at r p (yes h) = rw (r .up p (omega (arith, r .stores))) (or-true (leb (ran m (restarts m) .stores) p))
       at r p (no h) = rw (le-leb (ran m (restarts m) .stores) p (omega arith))
 

@@ -10,7 +10,7 @@ use lib.Dec.{eqb}
 use lib.ListN.{length, set, length-set}
 use lib.Seq.{getD-set-same, getD-set-other, set-getD}
 use Rattle.protocol.specs.Words.{pick, one}
-use Rattle.protocol.specs.Slots.{noEntry, noRepair, noMessage, recordCopies, number, place, statusNumber, home, view, repair, entry, message, contents, viewlink, ackCopies, updateCopies, uackCopies, noView}
+use Rattle.protocol.specs.Slots.{noEntry, noRepair, noMessage, recordCopies, number, place, statusNumber, home, shelf, view, repair, entry, message, contents, viewlink, ackCopies, updateCopies, uackCopies, noView}
 use Rattle.protocol.specs.Writes.{withUpAt, withRecordCopies, withView, withRepair, withEntry, withEntries, withRecords, withLinks, withQueues, withAckCopies, withUpdateCopies, withUackCopies, withViewlink}
 use Rattle.unbroken.specs.EverySlot.{Sized}
 use Rattle.unbroken.specs.Unbroken.{Unbroken}
@@ -22,7 +22,8 @@ use Rattle.protocol.specs.declared.Status.the-variants.{ToSend, Waiting, Done}
 use Rattle.protocol.specs.declared.Contents.{Contents}
 use Rattle.protocol.specs.declared.Links.{Links}
 use Rattle.protocol.specs.declared.Queue.{Queue}
-use Rattle.protocol.specs.Rule.{head, headView, phased, more}
+use Rattle.protocol.specs.Views.{phased}
+use Rattle.protocol.specs.Rule.{head, headView, more}
 use Rattle.protocol.specs.Send.{sendNo, sent, sentView, awaitedView}
 use Rattle.protocol.specs.Receive.{receiveNo, receivedOf, receivedView}
 use Rattle.protocol.specs.PreCheck.{preCheckNo, preChecked, checkedView}
@@ -42,6 +43,7 @@ use Rattle.keeps.proofs.Conditions.{taken-when}
 use Rattle.guarantees.proofs.Local
 use Rattle.guarantees.proofs.Local.{Job, Good}
 use Rattle.guarantees.proofs.Whole.{job, jobOf, cell, Here, Everywhere, touched}
+use Rattle.unbroken.proofs.Shelves.{store-back, turned-link}
 use Rattle.guarantees.proofs.Touches.{withPlace, at-store, at-stores, update-touch, view-touch, repair-touch, entries-touch, entry-touch, place-touch}
 use Rattle.guarantees.proofs.Heads.{stores8, Headed, keyOf, roleOf, and-true, headed}
 
@@ -69,9 +71,6 @@ sized-view m v w z = search (length-set, z)
 
 sized-entry : (m : State) (v : ℕ) (e : Entry) → Sized m → Sized (withEntry m v e)
 sized-entry m v e z = search (length-set, z)
-
-sized-viewlink : (m : State) (p v l : ℕ) → Sized m → Sized (withViewlink m p v l)
-sized-viewlink m p v l z = search (length-set, z)
 
 -- arrays that the record doesn't speak of
 same-slots : (m : State) (l : List ℕ) (ls : List Links) (qs : List Queue) → Everywhere m → Everywhere (withQueues (withLinks (withRecords m l) ls) qs)
@@ -126,12 +125,12 @@ module _ (m : State) (z : Sized m) (fits : m .made ≤ 16) (inv : Everywhere m) 
     by-entries e f q a b =
         touched m (withRepair (withEntries m (set (set (m .entries) v e) o f)) v q) k r _ _ _ _ hr (entries-touch m z k r key16 hr e f q) (λ j h n. h) fits inv a b
 
-    pub by-place : (p : ℕ) → p < 8 → (c : Contents) (l a n y : ℕ)
+    pub by-place : (p : ℕ) → p < 8 → length (shelf m p .viewlinks) ≡ 32 → (c : Contents) (l a n y : ℕ)
         → (Good (job m v) (cell m p v) (job m o) (cell m p o) (message m k .own) p → Good (job m o) (cell m p o) (job m v) (cell m p v) (message m k .own) p → Good (job m v) (record { held = one (c .held); link = l; acks = a; updates = n; uacks = y }) (job m o) (cell m p o) (message m k .own) p)
         → (Good (job m v) (cell m p v) (job m o) (cell m p o) (message m k .own) p → Good (job m o) (cell m p o) (job m v) (cell m p v) (message m k .own) p → Good (job m o) (cell m p o) (job m v) (record { held = one (c .held); link = l; acks = a; updates = n; uacks = y }) (message m k .own) p)
         → Everywhere (withPlace m p v c l a n y)
-    by-place p hp c l a n y f g =
-        touched m (withPlace m p v c l a n y) k r _ _ _ _ hr (place-touch m z k r key16 hr p hp c l a n y) (λ j h x. h) fits inv
+    by-place p hp row c l a n y f g =
+        touched m (withPlace m p v c l a n y) k r _ _ _ _ hr (place-touch m z k r key16 hr p hp row c l a n y) (λ j h x. h) fits inv
         (at-store (λ q x. Good (job m v) x (job m o) (cell m q o) (message m k .own) q) p _ (λ q. cell m q v) (f (here k r p hk hr hp) (there k r p hk hr hp)) (λ q hq. here k r q hk hr hq))
         (at-store (λ q x. Good (job m o) (cell m q o) (job m v) x (message m k .own) q) p _ (λ q. cell m q v) (g (here k r p hk hr hp) (there k r p hk hr hp)) (λ q hq. there k r q hk hr hq))
 
@@ -144,20 +143,20 @@ module _ (m : State) (z : Sized m) (fits : m .made ≤ 16) (inv : Everywhere m) 
       subst (λ (y : ℕ). view m y .phase ≡ n → P y) e (f (keyOf x) (roleOf x) (omega arith) (omega arith)) (h .phase)
 
   -- copies: what stands at a place stays but for a count
-  module _ (k r p : ℕ) (hk : k < m .made) (hr : r < 2) (hp : p < 8) where
+  module _ (k r p : ℕ) (hk : k < m .made) (hr : r < 2) (hp : p < 8) (row : length (shelf m p .viewlinks) ≡ 32) where
     pub with-acks : (n : ℕ) → (0 < n → 0 < ackCopies m p (number k r)) → Everywhere (withAckCopies m p (number k r) n)
     with-acks n f =
-        simp set-getD at (by-place k r hk hr p hp (contents m p (number k r)) (viewlink m p (number k r)) n (updateCopies m p (number k r)) (uackCopies m p (number k r))
+        simp (set-getD, store-back) at (by-place k r hk hr p hp row (contents m p (number k r)) (viewlink m p (number k r)) n (updateCopies m p (number k r)) (uackCopies m p (number k r))
         (λ a b. Local.counted-me a b n _ _ f (a .updateEntry) (λ h. h)) (λ a b. Local.counted-ot a b n _ _))
 
     pub with-updates : (n : ℕ) → (0 < n → 0 < statusNumber (entry m (number k r) .status)) → Everywhere (withUpdateCopies m p (number k r) n)
     with-updates n f =
-        simp set-getD at (by-place k r hk hr p hp (contents m p (number k r)) (viewlink m p (number k r)) (ackCopies m p (number k r)) n (uackCopies m p (number k r))
+        simp (set-getD, store-back) at (by-place k r hk hr p hp row (contents m p (number k r)) (viewlink m p (number k r)) (ackCopies m p (number k r)) n (uackCopies m p (number k r))
         (λ a b. Local.counted-me a b _ n _ (λ h. h) f (λ h. h)) (λ a b. Local.counted-ot a b _ n _))
 
     pub with-uacks : (n : ℕ) → (0 < n → 0 < uackCopies m p (number k r)) → Everywhere (withUackCopies m p (number k r) n)
     with-uacks n f =
-        simp set-getD at (by-place k r hk hr p hp (contents m p (number k r)) (viewlink m p (number k r)) (ackCopies m p (number k r)) (updateCopies m p (number k r)) n
+        simp (set-getD, store-back) at (by-place k r hk hr p hp row (contents m p (number k r)) (viewlink m p (number k r)) (ackCopies m p (number k r)) (updateCopies m p (number k r)) n
         (λ a b. Local.counted-me a b _ _ n (λ h. h) (a .updateEntry) f) (λ a b. Local.counted-ot a b _ _ n))
 
 module _ (m : State) (u : Unbroken m) (inv : Everywhere m) where
@@ -228,7 +227,7 @@ module _ (m : State) (u : Unbroken m) (inv : Everywhere m) where
       let hp : p < 8 = omega (arith, stores8 m u, t .place .storeIn) in
       let hk = t .place .keyIn in
       let hr = t .place .roleIn in
-      with-acks (withView m (number k r) (ackedView m p (number k r))) (sized-view m (number k r) (ackedView m p (number k r)) z) fits (go (accepts m p (number k r)) refl hp hk hr (t .copy)) k r p hk hr hp _ (λ h. omega (arith, t .copy))
+      with-acks (withView m (number k r) (ackedView m p (number k r))) (sized-view m (number k r) (ackedView m p (number k r)) z) fits (go (accepts m p (number k r)) refl hp hk hr (t .copy)) k r p hk hr hp (u .viewlinksLong p hp) _ (λ h. omega (arith, t .copy))
     where
       with : View → Type 0
       with w = Everywhere (withView m (number k r) w)
@@ -259,7 +258,7 @@ module _ (m : State) (u : Unbroken m) (inv : Everywhere m) where
       let n = more (ackCopies m p (number k r)) in
       let l = writtenViewlink (viewlink m p (number k r)) (view m (number k r)) in
       same-slots _ _ _ (m .queues)
-      (simp set-getD at (by-place m z fits inv k r (t .place .keyIn) (t .place .roleIn) p hp c l n (updateCopies m p (number k r)) (uackCopies m p (number k r))
+      (simp set-getD at (by-place m z fits inv k r (t .place .keyIn) (t .place .roleIn) p hp (u .viewlinksLong p hp) c l n (updateCopies m p (number k r)) (uackCopies m p (number k r))
       (λ a b. rw f (Local.recorded-me a b g n)) (λ a b. rw f (Local.recorded-ot a b g n))))
 
   -- 10, 13: an entry's status
@@ -278,7 +277,7 @@ module _ (m : State) (u : Unbroken m) (inv : Everywhere m) where
       let w = inStatus Waiting (entry m (number k r)) in
       let p = entry m (number k r) .destination in
       let hp : p < 8 = omega (arith, stores8 m u, u .entryDestinationIn (number k r) hv h) in
-      with-updates (withEntry m (number k r) w) (sized-entry m (number k r) w z) fits (with-status k r 2 w (t .view .keyIn) (t .view .roleIn) h refl (omega arith) (omega arith) refl refl) k r p (t .view .keyIn) (t .view .roleIn) hp _
+      with-updates (withEntry m (number k r) w) (sized-entry m (number k r) w z) fits (with-status k r 2 w (t .view .keyIn) (t .view .roleIn) h refl (omega arith) (omega arith) refl refl) k r p (t .view .keyIn) (t .view .roleIn) hp (u .viewlinksLong p hp) _
       (λ x. rw (getD-set-same (m .entries) (number k r) w noEntry (omega (arith, z .entries))) (omega arith))
 
   pub expires : (k r : ℕ) → expireNo m k r ≡ 0 → Everywhere (expired m k r)
@@ -301,15 +300,16 @@ module _ (m : State) (u : Unbroken m) (inv : Everywhere m) where
           (pick c (withUpdateCopies m p (number k r) (pick a (recordCopies m p (number k r)) (pick b (ackCopies m p (number k r)) (pick c (updateCopies m p (number k r)) (uackCopies m p (number k r)))) - 1))
           (withUackCopies m p (number k r) (pick a (recordCopies m p (number k r)) (pick b (ackCopies m p (number k r)) (pick c (updateCopies m p (number k r)) (uackCopies m p (number k r)))) - 1)))))
       go true b c hp hk hr = same-slots m _ (m .links) (m .queues) inv
-      go false true c hp hk hr = with-acks m z fits inv k r p hk hr hp _ (λ h. omega arith)
+      go false true c hp hk hr = with-acks m z fits inv k r p hk hr hp (u .viewlinksLong p hp) _ (λ h. omega arith)
       go false false true hp hk hr =
-          with-updates m z fits inv k r p hk hr hp _ (λ h. u .updateEntry p (number k r) hp (omega arith) (omega arith))
-      go false false false hp hk hr = with-uacks m z fits inv k r p hk hr hp _ (λ h. omega arith)
+          with-updates m z fits inv k r p hk hr hp (u .viewlinksLong p hp) _ (λ h. u .updateEntry p (number k r) hp (omega arith) (omega arith))
+      go false false false hp hk hr = with-uacks m z fits inv k r p hk hr hp (u .viewlinksLong p hp) _ (λ h. omega arith)
 
   -- 15, 16
   pub goes-up-or-down : (p : ℕ) (b : Bool) → Everywhere (withUpAt m p b)
   unfolding Everywhere
-  goes-up-or-down p b = inv
+  goes-up-or-down p b k r q hk hr hq =
+      rw (turned-link (m .shelves) p b q (number k r), turned-link (m .shelves) p b q (number k (1 - r))) (inv k r q hk hr hq)
 
   -- 12: the entry is done, or the uack only goes
   pub takes-uack : (p k r : ℕ) → takeUackNo m p k r ≡ 0 → Everywhere (uackTaken m p k r)
@@ -320,7 +320,7 @@ module _ (m : State) (u : Unbroken m) (inv : Everywhere m) where
       let hk = t .place .keyIn in
       let hr = t .place .roleIn in
       with-uacks (withEntry m (number k r) (finishedEntry p (entry m (number k r)))) (sized-entry m (number k r) (finishedEntry p (entry m (number k r))) z) fits
-      (go (eqb (statusNumber (entry m (number k r) .status)) 2 && eqb (entry m (number k r) .destination) p) refl hp hk hr (t .copy)) k r p hk hr hp _ (λ h. omega (arith, t .copy))
+      (go (eqb (statusNumber (entry m (number k r) .status)) 2 && eqb (entry m (number k r) .destination) p) refl hp hk hr (t .copy)) k r p hk hr hp (u .viewlinksLong p hp) _ (λ h. omega (arith, t .copy))
     where
       with : Entry → Type 0
       with x = Everywhere (withEntry m (number k r) x)
@@ -354,7 +354,7 @@ module _ (m : State) (u : Unbroken m) (inv : Everywhere m) where
       let a = here m z fits inv k r p hk hr hp in
       let b = there m z fits inv k r p hk hr hp in
       let s = a .updateEntry (t .copy) in
-      touched m (updateTaken m p k r) k r _ _ _ _ hr (update-touch m z k r (omega (arith, fits)) hr p hp l n y) (λ j h x. h) fits inv
+      touched m (updateTaken m p k r) k r _ _ _ _ hr (update-touch m z k r (omega (arith, fits)) hr p hp (u .viewlinksLong p hp) l n y) (λ j h x. h) fits inv
       (at-stores (λ q x x′. Good (job m (number k r)) x (job m (number k (1 - r))) x′ (message m k .own) q) p _ _ (λ q. cell m q (number k r)) (λ q. cell m q (number k (1 - r))) (Local.updated-me a b s n y) (λ q hq. here m z fits inv k r q hk hr hq))
       (at-stores (λ q x x′. Good (job m (number k (1 - r))) x′ (job m (number k r)) x (message m k .own) q) p _ _ (λ q. cell m q (number k r)) (λ q. cell m q (number k (1 - r))) (Local.updated-ot a b s n y) (λ q hq. there m z fits inv k r q hk hr hq))
 

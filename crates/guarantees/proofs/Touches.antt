@@ -6,10 +6,10 @@ use native.Mathlib.Omega.{arith}
 use native.Mathlib.Decide.{ℕ-discrete}
 use borrow.Author.Tests.{eq-eqb, ne-eqb}
 use lib.Dec.{eqb}
-use lib.ListN.{set, length-set}
+use lib.ListN.{length, set, length-set}
 use lib.Seq.{getD-set-same, getD-set-other}
 use Rattle.protocol.specs.Words.{pick, one}
-use Rattle.protocol.specs.Slots.{number, place, view, repair, entry, contents, ackCopies, noView, noRepair, noEntry, noContents}
+use Rattle.protocol.specs.Slots.{number, place, shelf, view, repair, entry, contents, ackCopies, noView, noRepair, noEntry, noContents}
 use Rattle.protocol.specs.Writes.{withView, withRepair, withEntry, withEntries, withAckCopies, withUpdateCopies, withUackCopies, withContentsAt, withViewlink}
 use Rattle.unbroken.specs.EverySlot.{Sized}
 use Rattle.protocol.specs.declared.State.{State}
@@ -17,6 +17,7 @@ use Rattle.protocol.specs.declared.View.{View}
 use Rattle.protocol.specs.declared.Repair.{Repair}
 use Rattle.protocol.specs.declared.Entry.{Entry}
 use Rattle.protocol.specs.declared.Contents.{Contents}
+use Rattle.unbroken.proofs.Shelves.{link-same, link-beside}
 use Rattle.guarantees.proofs.Local.{Cell, countedCell, linkedCell}
 use Rattle.guarantees.proofs.Whole.{job, jobOf, cell, Touch}
 
@@ -100,7 +101,7 @@ module _ (m : State) (z : Sized m) (k r : ℕ) (hk : k < 16) (hr : r < 2) where
       }
 
   -- a place
-  module _ (p : ℕ) (hp : p < 8) (c : Contents) (l a u y : ℕ) where
+  module _ (p : ℕ) (hp : p < 8) (row : length (shelf m p .viewlinks) ≡ 32) (c : Contents) (l a u y : ℕ) where
     abbrev placed : Cell
     placed = record { held = one (c .held); link = l; acks = a; updates = u; uacks = y }
 
@@ -116,7 +117,7 @@ module _ (m : State) (z : Sized m) (k r : ℕ) (hk : k < 16) (hr : r < 2) where
               f,
               eq-eqb p p refl,
               getD-set-same (m .contents) (place p (number k r)) c noContents (omega (arith, z .contents)),
-              getD-set-same (m .viewlinks) (place p (number k r)) l 0 (omega (arith, z .viewlinks)),
+              link-same (m .shelves) p (number k r) l (z .shelves) row hp hv,
               getD-set-same (m .acks) (place p (number k r)) a 0 (omega (arith, z .acks)),
               getD-set-same (m .updates) (place p (number k r)) u 0 (omega (arith, z .updates)),
               getD-set-same (m .uacks) (place p (number k r)) y 0 (omega (arith, z .uacks)),
@@ -129,7 +130,7 @@ module _ (m : State) (z : Sized m) (k r : ℕ) (hk : k < 16) (hr : r < 2) where
     elsewhere q w hw n =
         let hv : number k r < 32 = omega arith in
         let f : place q w ≢ place p (number k r) = λ e. n (let g : w ≡ number k r = omega arith in g) in
-        simp getD-set-other
+        simp (getD-set-other, link-beside (m .shelves) p (number k r) l q w n)
 
     pub place-touch : Touch m (withPlace m p (number k r) c l a u y) k r (job m (number k r)) (job m (number k (1 - r))) (λ q. pick (eqb q p) placed (cell m q (number k r))) (λ q. cell m q (number k (1 - r)))
     place-touch =
@@ -144,7 +145,7 @@ module _ (m : State) (z : Sized m) (k r : ℕ) (hk : k < 16) (hr : r < 2) where
         }
 
   -- an update is taken: counts at the place of the view, the viewlink at that of the other
-  module _ (p : ℕ) (hp : p < 8) (l n y : ℕ) where
+  module _ (p : ℕ) (hp : p < 8) (row : length (shelf m p .viewlinks) ≡ 32) (l n y : ℕ) where
     abbrev updated : State
     updated = withUackCopies (withViewlink (withUpdateCopies m p (number k r) n) p (number k (1 - r)) l) p (number k r) y
 
@@ -163,7 +164,7 @@ module _ (m : State) (z : Sized m) (k r : ℕ) (hk : k < 16) (hr : r < 2) where
         go : Dec (q ≡ p) → cell updated q (number k r) ≡ pick (eqb q p) (countedCell (ackCopies m p (number k r)) n y (cell m p (number k r))) (cell m q (number k r))
         go (yes f) =
             rw (
-              getD-set-other (m .viewlinks) (place p (number k (1 - r))) (place q (number k r)) l 0 far,
+              link-beside (m .shelves) p (number k (1 - r)) l q (number k r) (λ e. other-view (sym e)),
               f,
               eq-eqb p p refl,
               getD-set-same (m .updates) (place p (number k r)) n 0 (omega (arith, z .updates)),
@@ -190,7 +191,7 @@ module _ (m : State) (z : Sized m) (k r : ℕ) (hk : k < 16) (hr : r < 2) where
               getD-set-other (m .uacks) (place p (number k r)) (place q (number k (1 - r))) y 0 far,
               f,
               eq-eqb p p refl,
-              getD-set-same (m .viewlinks) (place p (number k (1 - r))) l 0 (omega (arith, z .viewlinks)),
+              link-same (m .shelves) p (number k (1 - r)) l (z .shelves) row hp ho,
             )
         go (no f) =
             let g : place q (number k (1 - r)) ≢ place p (number k (1 - r)) = λ e. f (let x : q ≡ p = omega arith in x) in
@@ -209,7 +210,6 @@ module _ (m : State) (z : Sized m) (k r : ℕ) (hk : k < 16) (hr : r < 2) where
           farJob = λ w hw f g. refl;
           farCell = λ q w hq hw f g.
               let a : place q w ≢ place p (number k r) = apart q w (number k r) hw (omega arith) f in
-              let b : place q w ≢ place p (number k (1 - r)) = apart q w (number k (1 - r)) hw (omega arith) g in
-              simp getD-set-other;
+              simp (getD-set-other, link-beside (m .shelves) p (number k (1 - r)) l q w g);
           farSent = λ j f. refl;
         }

@@ -15,7 +15,8 @@ use Rattle.protocol.specs.Writes.{withRecordCopies, withAckCopies, withUpdateCo
 use Rattle.unbroken.specs.Unbroken.{Unbroken}
 use Rattle.protocol.specs.declared.State.{State}
 use Rattle.protocol.specs.declared.View.{View}
-use Rattle.protocol.specs.Rule.{head, headView, phased}
+use Rattle.protocol.specs.Views.{phased}
+use Rattle.protocol.specs.Rule.{head, headView}
 use Rattle.protocol.specs.Send.{sent, sentView, awaitedView}
 use Rattle.protocol.specs.Receive.{receivedOf, receivedView}
 use Rattle.protocol.specs.PreCheck.{preChecked, checkedView}

@@ -31,7 +31,7 @@ use Rattle.reaches.proofs.Keys.{IsMet, none-met, sound-unmet}
 use Rattle.reaches.proofs.Visited.{visited}
 use Rattle.reaches.proofs.Laws.{answered-reaches}
 use Rattle.protocol.specs.declared.Met.{Met}
-use Rattle.protocol.specs.Walk.{added, spoiled, foundOf, causesHeld, receiptOf, hopOf, each, visitOf, unmet, walkedFrom, refusedWalk, walkOf}
+use Rattle.protocol.specs.Walk.{added, spoiled, lookedUp, foundOf, causesHeld, receiptOf, hopOf, each, isDue, toCause, visitOf, unmet, walkedFrom, refusedWalk, walkOf}
 use Rattle.guarantees.proofs.Heads.{and-true, absurd-eq}
 use Rattle.guarantees.proofs.Causes.{Cause}
 use Rattle.guarantees.proofs.Reached.{Reached, Causes}
@@ -45,12 +45,10 @@ flag : (b : Bool) → one b ≡ 1 → b ≡ true
 flag true e = refl
 flag false e = absurd (let z : ⊥ = omega arith in z)
 
--- a visit goes on or stays, unless the record isn't found
-stays-fine : (a b c : Bool) (x y z : Met) → c ≡ true → x .fine ≡ true → y .fine ≡ true → pick a x (pick b x (pick c y z)) .fine ≡ true
-stays-fine true b c x y z e f g = f
-stays-fine false true c x y z e f g = f
-stays-fine false false true x y z e f g = g
-stays-fine false false false x y z e f g = absurd-eq (sym e)
+-- what is picked of two that are fine is fine
+both-fine : (b : Bool) (x y : Met) → x .fine ≡ true → y .fine ≡ true → pick b x y .fine ≡ true
+both-fine true x y f g = f
+both-fine false x y f g = g
 
 -- what a walk from a key needs: Q holds of that key and, with a key, of its causes; and every key in Q is there and closed
 record Closing (m : State) (Q : ℕ → Type 0) : Type 0 where
@@ -117,19 +115,17 @@ module _ (m : State) (c : Reached m) (Q : ℕ → Type 0) (z : Closing m Q) wher
   visit-fine : (depth k : ℕ) (w : Met) → Q k → w .fine ≡ true → visitOf depth m k (view m (number k 0) .store + 1) w .fine ≡ true
   unfolding visitOf
   visit-fine zero k w q h = h
-  visit-fine (suc depth) k w q h =
-      stays-fine (not (w .fine)) (getD (w .met) k false) (foundOf m k (view m (number k 0) .store + 1)) w
-      (each (λ j. visitOf depth m j (hopOf m k (view m (number k 0) .store + 1) j)) (causesHeld m k (view m (number k 0) .store + 1)) k 0 (added w k)) (spoiled w)
-      (found k q) h (onward (λ i x l g. visit-fine depth i x l g))
+  visit-fine (suc depth) k w q h = rw (found k q) (onward (λ i x l g. visit-fine depth i x l g))
     where
       onward : ((i : ℕ) (x : Met) → Q i → x .fine ≡ true → visitOf depth m i (view m (number i 0) .store + 1) x .fine ≡ true)
-          → each (λ j. visitOf depth m j (hopOf m k (view m (number k 0) .store + 1) j)) (causesHeld m k (view m (number k 0) .store + 1)) k 0 (added w k) .fine ≡ true
+          → each (toCause (visitOf depth m) m k (view m (number k 0) .store + 1)) (causesHeld m k (view m (number k 0) .store + 1)) k 0 (added (lookedUp w) k) .fine ≡ true
       onward f =
-          each-fine (λ j. visitOf depth m j (hopOf m k (view m (number k 0) .store + 1) j)) (causesHeld m k (view m (number k 0) .store + 1)) k 0 (added w k)
+          each-fine (toCause (visitOf depth m) m k (view m (number k 0) .store + 1)) (causesHeld m k (view m (number k 0) .store + 1)) k 0 (added (lookedUp w) k)
           (λ i x l b g.
           let li : i < 16 = omega (arith, hk k q, u .made16) in
           let e : bit (view m (number k 0) .causes) i ≡ true = subst (λ (s : ℕ). bit s i ≡ true) (causes-held k q) b in
-          subst (λ (y : ℕ). visitOf depth m i y x .fine ≡ true) (sym (hop k q i li e)) (f i x (cause-in k q i li e) g)) h
+          both-fine (isDue x i) (visitOf depth m i (hopOf m k (view m (number k 0) .store + 1) i) (lookedUp x)) x
+          (subst (λ (y : ℕ). visitOf depth m i y (lookedUp x) .fine ≡ true) (sym (hop k q i li e)) (f i (lookedUp x) (cause-in k q i li e) g)) g) h
 
   walk-answered : (k : ℕ) → Q k → walkOf m k .answer ≡ 0
   unfolding walkOf walkedFrom
@@ -161,21 +157,26 @@ module _ (m : State) where
   unfolding MetClosed
   spoiled-closed w h = h
 
+  looked-closed : (w : Met) → MetClosed w → MetClosed (lookedUp w)
+  unfolding MetClosed
+  looked-closed w h = h
+
+  both-closed : (b : Bool) (x y : Met) → MetClosed x → MetClosed y → MetClosed (pick b x y)
+  both-closed true x y f g = f
+  both-closed false x y f g = g
+
   visit-closed : (depth k link : ℕ) (w : Met) → MetClosed w → MetClosed (visitOf depth m k link w)
   unfolding visitOf foundOf
   visit-closed zero k link w h = h
-  visit-closed (suc depth) k link w h = go (not (w .fine)) (getD (w .met) k false) (foundOf m k link) refl (λ i x g. visit-closed depth i (hopOf m k link i) x g)
+  visit-closed (suc depth) k link w h = go (foundOf m k link) refl (λ i x g. visit-closed depth i (hopOf m k link i) x g)
     where
-      onward : Met
-      onward = each (λ j. visitOf depth m j (hopOf m k link j)) (causesHeld m k link) k 0 (added w k)
-
-      go : (a b d : Bool) → foundOf m k link ≡ d → ((i : ℕ) (x : Met) → MetClosed x → MetClosed (visitOf depth m i (hopOf m k link i) x)) → MetClosed (pick a w (pick b w (pick d onward (spoiled w))))
-      go true b d e f = h
-      go false true d e f = h
-      go false false true e f =
-          each-closed (λ j. visitOf depth m j (hopOf m k link j)) (causesHeld m k link) k 0 (added w k) f
-          (added-closed k w (and-true (not (eqb link 0) && contents m (link - 1) (number k 0) .held) (closedOf m k) e .1) h)
-      go false false false e f = spoiled-closed w h
+      go : (d : Bool) → foundOf m k link ≡ d → ((i : ℕ) (x : Met) → MetClosed x → MetClosed (visitOf depth m i (hopOf m k link i) x))
+          → MetClosed (pick d (each (toCause (visitOf depth m) m k link) (causesHeld m k link) k 0 (added (lookedUp w) k)) (spoiled w))
+      go true e f =
+          each-closed (toCause (visitOf depth m) m k link) (causesHeld m k link) k 0 (added (lookedUp w) k)
+          (λ i x g. both-closed (isDue x i) (visitOf depth m i (hopOf m k link i) (lookedUp x)) x (f i (lookedUp x) (looked-closed x g)) g)
+          (added-closed k (lookedUp w) (and-true (not (eqb link 0) && contents m (link - 1) (number k 0) .held) (closedOf m k) e .1) (looked-closed w h))
+      go false e f = spoiled-closed w h
 
   none-closed : MetClosed unmet
   unfolding MetClosed
@@ -193,7 +194,7 @@ module _ (m : State) where
       low = omega (arith, u .made16)
 
       listed : times i (take (walkedFrom m k .count) (walkedFrom m k .keys)) ≡ one (getD (walkedFrom m k .met) i false)
-      listed = visited m u 16 k (view m (number k 0) .store + 1) unmet low low sound-unmet .after .sound .listed i
+      listed = visited m u 16 k (view m (number k 0) .store + 1) unmet low low sound-unmet (none-met k) .after .sound .listed i
 
       met : (f : Bool) → walkedFrom m k .fine ≡ f → IsMet (walkedFrom m k) i
       met true f = flag (getD (walkedFrom m k .met) i false) (sym listed ∙ rw (c .fine, lt-leb (m .made) k hk, f) at t)
@@ -203,7 +204,7 @@ module _ (m : State) where
   unfolding walkOf
   walk-13 c k hk n = rw (c .fine, lt-leb (m .made) k hk) (go (walkedFrom m k .fine) refl)
     where
-      go : (f : Bool) → walkedFrom m k .fine ≡ f → pick f (record { answer = 0; keys = walkedFrom m k .keys; count = walkedFrom m k .count }) (refusedWalk 13) .answer ≡ 13
+      go : (f : Bool) → walkedFrom m k .fine ≡ f → pick f (record { answer = 0; keys = walkedFrom m k .keys; count = walkedFrom m k .count; lookups = walkedFrom m k .lookups }) (refusedWalk 13) .answer ≡ 13
       go true f = absurd (n (rw (c .fine, lt-leb (m .made) k hk, f)))
       go false f = refl
 

@@ -7,7 +7,7 @@ use mathlib.Core.Bool.{true}
 use mathlib.Core.List.{List, [], _∷_, _++_}
 use lib.ListN.{length, getD, replicate}
 use Rattle.protocol.specs.Words.{pick, bit, times}
-use Rattle.protocol.specs.Slots.{number, statusNumber, isUp, view, contents, causeLinks, viewlink}
+use Rattle.protocol.specs.Slots.{number, statusNumber, isUp, view, lastingContents as contents, lastingCauseLinks as causeLinks, lastingViewlink as viewlink}
 use Rattle.protocol.specs.Setup.{emptyMachine, setupOf}
 use Rattle.protocol.specs.Broken.{brokenOf}
 use Rattle.protocol.specs.Closed.{closedOf}
@@ -195,18 +195,18 @@ Books = (book : List ℕ) (room : ℕ) → runOf book room .answer ≡ 0 → Boo
 -- 9. Every call answers: each public call is a proved function, so it ends for every input; and its promise, `result ≡ definition of
 -- the inputs`, leaves exactly one result. That holds of any definition, and shows nothing by itself: what bites is that the contracts
 -- have this shape, which the gate looks at. All public calls, with the crate that has them:
---   protocol: status_number
+--   protocol: status_number, unset_view
 --   broken: legal, fresh, empty, is_broken
 --   rules: look_back, Slots::rule (the two that `machine` is made of; the second has no equation, docs/ say why)
 --   machine: Machine::empty, setup, broken, step; its joints step_unbroken and steps_unbroken, for machines that are not broken
 --   drain: drain. walk: walk. runs: run, with its buffer
---   listing: refused, listing
---   tautlichen: tautlichen_run, _list, _drain, _walk, whose lent values are told one by one in its specs/Only.antt
+--   listing: refused, listing. provn: write. pair_rule: check, is_rule
+--   tautlichen: tautlichen_run, _list, _drain, _walk, _lineage, _pair, whose lent values are told one by one in its specs/Only.antt
 --   bench: bench_run, bench_broken, bench_walk, bench_drain, bench_step, bench_step_unbroken
 abbrev pub Determined : {A : Type 0} → A → Type 0
 Determined {A} d = (x y : A) → x ≡ d → y ≡ d → x ≡ y
 
-pub record EveryCall : Type 1 where
+pub record EveryCall : Type 0 where
   pub status : (s : Status) → Determined (statusNumber s)
   pub legal : (u : Setup) → Determined (legalSetup u)
   pub fresh : (u : Setup) → Determined (freshOf u)
@@ -222,5 +222,7 @@ pub record EveryCall : Type 1 where
   pub buffer : (book buffer : List ℕ) → Determined (bufferOf book buffer)
   pub refused : (n : ℕ) → Determined (refusedLine n)
   pub listing : (m : State) (steps taken : ℕ) → Determined (listingOf m steps taken)
-  -- whatever is defined above this crate: look_back, tautlichen, bench
-  pub any : {A : Type 0} (d : A) → Determined d
+
+-- .. and whatever is defined above this crate: look_back, tautlichen, bench
+abbrev pub AnyCall : Type 1
+AnyCall = (A : Type 0) (d : A) → Determined d

@@ -31,13 +31,14 @@ fn keys(met: [u8; 16], count: u8) {
     }
 }
 
-// W key 0 count key key .., or W key refusal.
-fn walk_line(key: u8, answer: u8, met: [u8; 16], count: u8) {
+// W key 0 count lookups key key .., or W key refusal.
+fn walk_line(key: u8, answer: u8, met: [u8; 16], count: u8, lookups: u8) {
     print::text(b"W");
     print::small(key);
     print::small(answer);
     if answer == 0 {
         print::small(count);
+        print::small(lookups);
         keys(met, count);
     }
     print::text(b"\n");
@@ -46,7 +47,7 @@ fn walk_line(key: u8, answer: u8, met: [u8; 16], count: u8) {
 fn walk_of(m: State, key: u8) {
     let w = walk::walk(m, key);
     let met = w.keys;
-    walk_line(key, w.answer, met, w.count);
+    walk_line(key, w.answer, met, w.count, w.lookups);
 }
 
 // Each key made, and the one behind the last, which is not in the machine.
@@ -80,8 +81,8 @@ fn restart_all(from: State) -> State {
     let mut p: u8 = 0;
     while p < 8 {
         if p < m.stores {
-            let up = from.up;
-            m = restart(m, p, up[p as usize]);
+            let s = from.shelves[p as usize];
+            m = restart(m, p, s.up);
         }
         p += 1;
     }

@@ -9,14 +9,16 @@ use protocol::Message;
 use protocol::Queue;
 use protocol::Repair;
 use protocol::State;
+use protocol::Store;
 use protocol::View;
 
 // Bit p for a store p that is up.
-fn up_mask(up: [bool; 8]) -> u64 {
+fn up_mask(shelves: [Store; 8]) -> u64 {
     let mut mask: u64 = 0;
     let mut p: usize = 0;
     while p < 8 {
-        if up[p] {
+        let s = shelves[p];
+        if s.up {
             mask |= 1 << p;
         }
         p += 1;
@@ -160,10 +162,11 @@ fn place_lines(m: State, p: usize, v: usize)
     requires { ⌜ v < 32 ⌝ }
 {
     let at = p * 32 + v;
+    let s = m.shelves[p];
     let kept = m.links[p * 16 + v / 2];
     let links = kept.to;
     contents_line(p, v, m.contents[at], links);
-    viewlink_line(p, v, m.viewlinks[at]);
+    viewlink_line(p, v, s.viewlinks[v]);
     copies_line(p, v, m.records[at], m.acks[at], m.updates[at], m.uacks[at]);
 }
 
@@ -190,12 +193,12 @@ fn view_lines(m: State, v: usize)
 }
 
 pub(crate) fn machine(m: State) {
-    let up = m.up;
+    let shelves = m.shelves;
     print::text(b"M");
     print::small(m.stores);
     print::small(m.actors);
     print::small(m.made);
-    print::field(up_mask(up));
+    print::field(up_mask(shelves));
     print::text(b"\n");
     actors(m);
     let mut v: usize = 0;

@@ -15,7 +15,8 @@ use Rattle.protocol.specs.declared.View.{View}
 use Rattle.unbroken.proofs.Laws.Tests.{not-both, by-test, and-left, and-right}
 use Rattle.unbroken.proofs.Laws.Every.{length-table, table-at}
 use Rattle.unbroken.proofs.Laws.Says.{eq-says, zero-splits}
-use Rattle.protocol.specs.Rule.{head, headView, phased}
+use Rattle.protocol.specs.Views.{phased}
+use Rattle.protocol.specs.Rule.{head, headView}
 use Rattle.protocol.specs.PreCheck.{checkedLink, checkedView, preChecked}
 use Rattle.protocol.specs.Timeout.{movedView, timedOut}
 use Rattle.keeps.specs.Taken.{HeadIn, TimeoutTaken}
@@ -32,11 +33,7 @@ phased-slot w n old low high made c =
       linkBlank = c .linkBlank;
       storeIn = λ h. c .storeIn old;
       viewlinkIn = λ h. c .viewlinkIn old;
-      storeUnset = λ e. absurd (omega arith);
-      viewlinkUnset = λ e. absurd (omega arith);
-      changedUnset = λ e. absurd (omega arith);
-      causesUnset = λ e. absurd (omega arith);
-      wordUnset = λ e. absurd (omega arith);
+      unset = λ e. absurd (omega arith);
       actorIn = c .actorIn;
       phase5 = λ h. high;
       senderMade = λ h r. low;
@@ -75,11 +72,7 @@ timeout-kept m s a p c =
       linkBlank = old .linkBlank;
       storeIn = λ h. c .storeIn;
       viewlinkIn = λ h. old .viewlinkIn from;
-      storeUnset = λ e. absurd (omega arith);
-      viewlinkUnset = λ e. absurd (omega arith);
-      changedUnset = λ e. absurd (omega arith);
-      causesUnset = λ e. absurd (omega arith);
-      wordUnset = λ e. absurd (omega arith);
+      unset = λ e. absurd (omega arith);
       actorIn = old .actorIn;
       phase5 = λ h. omega arith;
       senderMade = λ h r. omega arith;
@@ -106,7 +99,7 @@ pre-check-kept m s a c =
     let store : (j : ℕ) → j < 16 → view m (number j 1) .changed ≡ true → view m (number j 1) .store < m .stores =
     λ j h e. s .viewAt (number j 1) (omega arith) .storeIn
     (zero-splits (view m (number j 1) .phase) .fails (by-test (eqb (view m (number j 1) .phase) 0)
-    (λ z. not-both (view m (number j 1) .changed) e (s .viewAt (number j 1) (omega arith) .changedUnset (eq-says (view m (number j 1) .phase) 0 .tells z))) (λ z. z))) in
+    (λ z. not-both (view m (number j 1) .changed) e (ap (λ (w : View). w .changed) (s .viewAt (number j 1) (omega arith) .unset (eq-says (view m (number j 1) .phase) 0 .tells z)))) (λ z. z))) in
     let x : ViewSlot (m .stores) (m .actors) (m .made) (view m (head m a - 1) .actor) (head m a) w =
     record {
       linksLong = length-table (checkedLink m o) 16;
@@ -119,11 +112,7 @@ pre-check-kept m s a c =
           (λ e. not-both (bit (o .causes) j) (and-left (bit (o .causes) j) (view m (number j 1) .changed) e) b) (λ e. old .linkBlank j h b);
       storeIn = λ h. old .storeIn from;
       viewlinkIn = λ h. old .viewlinkIn from;
-      storeUnset = λ e. absurd (omega arith);
-      viewlinkUnset = λ e. absurd (omega arith);
-      changedUnset = λ e. absurd (omega arith);
-      causesUnset = λ e. absurd (omega arith);
-      wordUnset = λ e. absurd (omega arith);
+      unset = λ e. absurd (omega arith);
       actorIn = old .actorIn;
       phase5 = λ h. omega arith;
       senderMade = λ h r. omega arith;

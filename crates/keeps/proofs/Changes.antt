@@ -22,7 +22,8 @@ use Rattle.protocol.specs.declared.Status.the-variants.{ToSend, Waiting, Done}
 use Rattle.unbroken.proofs.Laws.{slots}
 use Rattle.unbroken.proofs.Laws.Tests.{and-left, and-right}
 use Rattle.unbroken.proofs.Laws.Says.{eq-says, zero-splits, not-says, and-says}
-use Rattle.protocol.specs.Rule.{head, headView, phased, more}
+use Rattle.protocol.specs.Views.{phased}
+use Rattle.protocol.specs.Rule.{head, headView, more}
 use Rattle.protocol.specs.SendUpdate.{inStatus, updateSent}
 use Rattle.protocol.specs.TakeUack.{finishedEntry, uackTaken}
 use Rattle.protocol.specs.TakeUpdate.{updateTaken}
@@ -43,6 +44,7 @@ use Rattle.keeps.specs.Change.{HeadMove, isChecked, isSent, isMoved, isA
 use Rattle.keeps.specs.Change.{withHeld, LinkMove, isWritten, isUpdated, StatusMove, isWaiting, isExpired, isDone, Change, onUp, onSend, onReceive, onHead, onSettle, onFlight, onHeld, onViewlink, onStatus, onRepair, Changes, nothing, then}
 use Rattle.keeps.proofs.Index.{place-same}
 use Rattle.keeps.proofs.Conditions.{taken-when, waiting}
+use Rattle.unbroken.proofs.Shelves.{link-same}
 use Rattle.keeps.proofs.Writes.{up-write, record-write, ack-write, update-write, uack-write, viewlink-write}
 use Rattle.keeps.proofs.Heads.{head-32, head-from, head-made}
 use Rattle.keeps.proofs.Stores.{fewer-copies, more-copies, store-8, number-32, written-held, holds, linked}
@@ -174,7 +176,7 @@ module _ (m : State) (s : EverySlot m) where
       let there : contents m₁ p v .held ≡ true =
       ap (λ (x : Contents). x .held) (place-same (m .contents) p v w noContents (s .sized .contents) hp hv) ∙ written-held m s p k hp hs hk (contents m p v) (view m v) in
       let link : 1 ≤ viewlink m₂ p v =
-      subst (λ (n : ℕ). 1 ≤ n) (sym (place-same (m .viewlinks) p v l 0 (s .sized .viewlinks) hp hv))
+      subst (λ (n : ℕ). 1 ≤ n) (sym (link-same (m .shelves) p v l (s .sized .shelves) (s .storeAt p hp .long) hp hv))
       (pick-case (λ (n : ℕ). 1 ≤ n) (eqb (viewlink m p v) 0) (view m v .viewlink + 1) (viewlink m p v) (λ e. omega arith) (λ e. zero-splits (viewlink m p v) .fails e)) in
       then m₃ _
       (then m₂ m₃
@@ -242,7 +244,7 @@ module _ (m : State) (s : EverySlot m) where
       let m₂ = withUackCopies m₁ p v (more (uackCopies m p v)) in
       let o₁ : PlaceOf m₁ p k r = record { storeIn = hs; keyIn = hk; roleIn = hr } in
       let o₂ : PlaceOf m₂ p k r = record { storeIn = hs; keyIn = hk; roleIn = hr } in
-      let link : viewlink m₁ p u ≡ entry m v .own + 1 = place-same (m .viewlinks) p u (entry m v .own + 1) 0 (s .sized .viewlinks) hp hu in
+      let link : viewlink m₁ p u ≡ entry m v .own + 1 = link-same (m .shelves) p u (entry m v .own + 1) (s .sized .shelves) (s .storeAt p hp .long) hp hu in
       then m₂ _
       (then m₁ m₂ (one m m₁ (onViewlink p k u (entry m v .own + 1) hs hk (isUpdated r hr (c .copy))))
       (onFlight (m .records) (m .acks) (m .updates) _ (uackComes p k r o₁ (c .copy) link)))

@@ -63,7 +63,6 @@ module _ (m : State) (s : EverySlot m) where
           setup = s .setup;
           homeBlank = s .homeBlank;
           listBlank = s .listBlank;
-          upBlank = s .upBlank;
           viewAt = λ v h. jobs v h .viewSlot;
           onceAt = once;
           queueAt = queued;
@@ -76,7 +75,13 @@ module _ (m : State) (s : EverySlot m) where
           uackAt = s .uackAt;
           contentsAt = λ p v hp h. jobs v h .contentsSlot p hp;
           linksAt = λ p k hp hk. jobs (number k 0) (omega arith) .linksSlot p k hp hk refl;
-          viewlinkAt = λ p v hp h. let o = s .viewlinkAt p v hp h in record { linkIn = o .linkIn; atStore = o .atStore; atView = λ b. let i = o .atView b in omega arith };
+          storeAt = λ p hp.
+              let o = s .storeAt p hp in
+              record {
+                upBlank = o .upBlank;
+                long = o .long;
+                linkAt = λ v h. let i = o .linkAt v h in record { linkIn = i .linkIn; atStore = i .atStore; atView = λ b. let j = i .atView b in omega arith };
+              };
         }
 
   -- one view is written, and keeps its actor

@@ -18,6 +18,7 @@ use Rattle.protocol.specs.declared.View.{View}
 use Rattle.protocol.specs.declared.Contents.{Contents}
 use Rattle.protocol.specs.Outcome.{Outcome}
 use Rattle.unbroken.proofs.Laws.{slots, only, fresh-unbroken}
+use Rattle.unbroken.proofs.Shelves.{link-same}
 use Rattle.unbroken.proofs.Laws.Tests.{not-both}
 use Rattle.unbroken.proofs.Laws.Every.{table-at}
 use Rattle.unbroken.proofs.Laws.Says.{zero-splits}
@@ -164,7 +165,7 @@ store-writes-links m p k r e c =
     let l = writtenViewlink (viewlink m p v) (view m v) in
     record {
       held = here;
-      viewlink = subst (λ (n : ℕ). 1 ≤ n) (sym (place-same (m .viewlinks) p v l 0 (s .sized .viewlinks) hp hv))
+      viewlink = subst (λ (n : ℕ). 1 ≤ n) (sym (link-same (m .shelves) p v l (s .sized .shelves) (s .storeAt p hp .long) hp hv))
           (pick-case (λ (n : ℕ). 1 ≤ n) (eqb (viewlink m p v) 0) (view m v .viewlink + 1) (viewlink m p v) (λ f. omega arith) (λ f. zero-splits (viewlink m p v) .fails f));
       links = λ j h z.
           kept .linksAt p k hp (key-16 m s k hk) .sameLinks j h (ap (λ (i : ℕ). contents (recordTaken m p k r) p (number k i) .held) (sym z) ∙ here)

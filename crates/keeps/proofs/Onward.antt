@@ -23,7 +23,8 @@ use Rattle.protocol.specs.Closed.{restsOf, closedOf}
 use Rattle.unbroken.proofs.Laws.{slots}
 use Rattle.unbroken.proofs.Laws.Room.{made-view}
 use Rattle.unbroken.proofs.Laws.Says.{Says, eq-says, eq-splits, is-splits, zero-splits, and-says, not-says, put-says}
-use Rattle.protocol.specs.Rule.{head, headView, phased}
+use Rattle.protocol.specs.Views.{phased}
+use Rattle.protocol.specs.Rule.{head, headView}
 use Rattle.protocol.specs.Send.{sentView, awaitedView, sent}
 use Rattle.protocol.specs.Receive.{receivedView, receivedOf}
 use Rattle.protocol.specs.TakeRecord.{writtenContents, writtenLinks}
@@ -36,6 +37,7 @@ use Rattle.keeps.specs.Change.{Change, onUp, onSend, onReceive, onHead, 
 use Rattle.keeps.specs.Onward.{ViewOn, Onward, Resting, Closed, ClosedSays, StepOnward, ClosedStays}
 use Rattle.keeps.proofs.Index.{at-index, at-place, at-links-place}
 use Rattle.keeps.proofs.Heads.{head-32}
+use Rattle.unbroken.proofs.Shelves.{turned-link, at-link}
 use Rattle.keeps.proofs.Cases.{pick-case}
 use Rattle.keeps.proofs.Stores.{store-8, key-16, number-32}
 use Rattle.keeps.proofs.Changes.{change-kept, step-related, step-has}
@@ -200,7 +202,7 @@ receive-on m k e =
 -- of the arrays that speak of the past only the views are written, and each goes on
 views-onward : (m n : State) → n .stores ≡ m .stores → n .actors ≡ m .actors → n .homes ≡ m .homes → n .lists ≡ m .lists → m .made ≤ n .made
     → ((v : ℕ) → v < m .made * 2 → ViewOn (view m v) (view n v))
-    → n .contents ≡ m .contents → n .links ≡ m .links → n .viewlinks ≡ m .viewlinks → n .entries ≡ m .entries → Onward m n
+    → n .contents ≡ m .contents → n .links ≡ m .links → ((p v : ℕ) → viewlink n p v ≡ viewlink m p v) → n .entries ≡ m .entries → Onward m n
 views-onward m n s₁ s₂ s₃ s₄ more on c l k e =
     record {
       stores = s₁;
@@ -211,7 +213,7 @@ views-onward m n s₁ s₂ s₃ s₄ more on c l k e =
       views = on;
       held = λ p v hp hv b. ap (λ (x : List Contents). getD x (place p v) noContents) c;
       links = λ p j hp hj b. ap (λ (x : List Links). getD x (linksPlace p j) noLinks .to) l;
-      linked = λ p v hp hv b. subst (λ (x : List ℕ). 1 ≤ getD x (place p v) 0) (sym k) b;
+      linked = λ p v hp hv b. subst (λ (x : ℕ). 1 ≤ x) (sym (k p v)) b;
       entered = λ v hv b. subst (λ (x : List Entry). 1 ≤ statusNumber (getD x v noEntry .status)) (sym e) b;
     }
 
@@ -230,15 +232,15 @@ module _ (m : State) (s : EverySlot m) where
       (λ v h. subst (ViewOn (view m v))
       (sym (getD-set-other (set (m .views) (number k 0) w) (number k 1) v (awaitedView to) noView (omega arith) ∙ getD-set-other (m .views) (number k 0) v w noView (omega arith)))
       (view-still (view m v)))
-      refl refl refl refl
+      refl refl (λ p v. refl) refl
 
   receive-onward : (k : ℕ) → ReceiveTaken m k → Onward m (receivedOf m k)
   unfolding receivedOf
   receive-onward k c =
-      views-onward m (receivedOf m k) refl refl refl refl (omega arith) (one-view (number k 1) (number-32 m s k 1 (c .keyIn) (omega arith)) (receivedView m k) (receive-on m k (c .unreceived))) refl refl refl refl
+      views-onward m (receivedOf m k) refl refl refl refl (omega arith) (one-view (number k 1) (number-32 m s k 1 (c .keyIn) (omega arith)) (receivedView m k) (receive-on m k (c .unreceived))) refl refl (λ p v. refl) refl
 
   head-onward : (a : ℕ) (w : View) → HeadMove m a w → head m a < 32 → Onward m (withView m (head m a) w)
-  head-onward a w h b = views-onward m (withView m (head m a) w) refl refl refl refl (omega arith) (one-view (head m a) b w (head-on m a w h)) refl refl refl refl
+  head-onward a w h b = views-onward m (withView m (head m a) w) refl refl refl refl (omega arith) (one-view (head m a) b w (head-on m a w h)) refl refl (λ p v. refl) refl
 
   head-place : (a : ℕ) (w : View) → HeadMove m a w → head m a < 32
   head-place a w (isChecked h) = head-32 m s a (h .actorIn) (h .queued)
@@ -250,7 +252,7 @@ module _ (m : State) (s : EverySlot m) where
   unfolding postChecked
   settle-onward a h =
       views-onward m (postChecked m a) refl refl refl refl (omega arith)
-      (one-view (head m a) (head-32 m s a (h .actorIn) (h .queued)) (phased 5 (headView m a)) (settle-on (headView m a) (h .headPhase))) refl refl refl refl
+      (one-view (head m a) (head-32 m s a (h .actorIn) (h .queued)) (phased 5 (headView m a)) (settle-on (headView m a) (h .headPhase))) refl refl (λ p v. refl) refl
 
   -- a store's contents are written only if none were there, and its viewlinks only to a store
   links-stay : (r : ℕ) (c : Contents) (w : View) (l : Links) → (r ≡ 0 → c .held ≡ true) → writtenLinks r c w l ≡ l
@@ -297,7 +299,7 @@ module _ (m : State) (s : EverySlot m) where
         views = λ u h. view-still (view m u);
         held = λ q u hq hu e. refl;
         links = λ q j hq hj e. refl;
-        linked = at-place (m .viewlinks) p v link 0 (s .sized .viewlinks) hp (in-views v link l) (λ q u n. 1 ≤ viewlink m q u → 1 ≤ n) (λ h. some v link l h) (λ q u hq hu h. h);
+        linked = at-link (m .shelves) p v link (s .sized .shelves) (s .storeAt p hp .long) hp (in-views v link l) (λ q u n. 1 ≤ viewlink m q u → 1 ≤ n) (λ h. some v link l h) (λ q u hq hu h. h);
         entered = λ u hu h. h;
       }
     where
@@ -360,10 +362,11 @@ repair-onward m s k r c =
 
 flight-onward : (m : State) (records acks updates uacks : List ℕ) → Onward m (withFlight m records acks updates uacks)
 flight-onward m records acks updates uacks =
-    views-onward m (withFlight m records acks updates uacks) refl refl refl refl (omega arith) (λ v h. view-still (view m v)) refl refl refl refl
+    views-onward m (withFlight m records acks updates uacks) refl refl refl refl (omega arith) (λ v h. view-still (view m v)) refl refl (λ p v. refl) refl
 
 up-onward : (m : State) (p : ℕ) (b : Bool) → Onward m (withUpAt m p b)
-up-onward m p b = views-onward m (withUpAt m p b) refl refl refl refl (omega arith) (λ v h. view-still (view m v)) refl refl refl refl
+up-onward m p b =
+    views-onward m (withUpAt m p b) refl refl refl refl (omega arith) (λ v h. view-still (view m v)) refl refl (turned-link (m .shelves) p b) refl
 
 -- a status that was to-send or waiting is one of an entry
 status-from : (m : State) (v : ℕ) (t : Status) → StatusMove m v t → (1 ≤ statusNumber t) × (1 ≤ statusNumber (entry m v .status)) × (statusNumber (entry m v .status) ≤ 2)

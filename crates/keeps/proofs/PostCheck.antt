@@ -16,7 +16,8 @@ use Rattle.protocol.specs.declared.State.{State}
 use Rattle.protocol.specs.declared.View.{View}
 use Rattle.protocol.specs.declared.Queue.{Queue}
 use Rattle.unbroken.proofs.Laws.Room.{actors8, made-view}
-use Rattle.protocol.specs.Rule.{head, headView, phased}
+use Rattle.protocol.specs.Views.{phased}
+use Rattle.protocol.specs.Rule.{head, headView}
 use Rattle.protocol.specs.PostCheck.{askedRepair, left, postChecked}
 use Rattle.keeps.specs.Taken.{HeadIn}
 use Rattle.keeps.proofs.Index.{at-others}

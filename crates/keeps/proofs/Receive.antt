@@ -49,11 +49,7 @@ module _ (m : State) (s : EverySlot m) (k : ℕ) (hk : k < m .made) (old : view 
         linkBlank = λ j b e. getD-replicate {A = ℕ} 16 j 0 0 b;
         storeIn = λ b. home-in m s a a-in;
         viewlinkIn = λ b. g .ownIn (g .sent hk old);
-        storeUnset = λ e. absurd (omega arith);
-        viewlinkUnset = λ e. absurd (omega arith);
-        changedUnset = λ e. absurd (omega arith);
-        causesUnset = λ e. absurd (omega arith);
-        wordUnset = λ e. absurd (omega arith);
+        unset = λ e. absurd (omega arith);
         actorIn = λ b. a-in;
         phase5 = λ b. omega arith;
         senderMade = λ b r. omega arith;

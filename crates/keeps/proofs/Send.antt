@@ -82,11 +82,7 @@ module _ (m : State) (s : EverySlot m) (from to own word causes : ℕ) (c : Send
         linkBlank = λ j h b. link-at j h ∙ pick-case (λ (n : ℕ). n ≡ 0) (bit causes j) _ _ (λ e. not-both (bit causes j) e b) (λ e. refl);
         storeIn = λ h. c .ownIn;
         viewlinkIn = λ h. home-in m s to (c .toIn);
-        storeUnset = λ e. absurd (omega arith);
-        viewlinkUnset = λ e. absurd (omega arith);
-        changedUnset = λ e. refl;
-        causesUnset = λ e. absurd (omega arith);
-        wordUnset = λ e. absurd (omega arith);
+        unset = λ e. absurd (omega arith);
         actorIn = λ h. c .fromIn;
         phase5 = λ h. omega arith;
         senderMade = λ h r. omega arith;
@@ -105,11 +101,7 @@ module _ (m : State) (s : EverySlot m) (from to own word causes : ℕ) (c : Send
         linkBlank = λ j b e. getD-replicate {A = ℕ} 16 j 0 0 b;
         storeIn = λ h. absurd (omega arith);
         viewlinkIn = λ h. absurd (omega arith);
-        storeUnset = λ e. refl;
-        viewlinkUnset = λ e. refl;
-        changedUnset = λ e. refl;
-        causesUnset = λ e. refl;
-        wordUnset = λ e. refl;
+        unset = λ e. refl;
         actorIn = λ h. c .toIn;
         phase5 = λ h. omega arith;
         senderMade = λ h r. absurd (omega arith);
@@ -130,11 +122,7 @@ module _ (m : State) (s : EverySlot m) (from to own word causes : ℕ) (c : Send
         linkBlank = o .linkBlank;
         storeIn = o .storeIn;
         viewlinkIn = o .viewlinkIn;
-        storeUnset = o .storeUnset;
-        viewlinkUnset = o .viewlinkUnset;
-        changedUnset = o .changedUnset;
-        causesUnset = o .causesUnset;
-        wordUnset = o .wordUnset;
+        unset = o .unset;
         actorIn = λ b. o .actorIn (omega arith);
         phase5 = λ b. o .phase5 (omega arith);
         senderMade = λ b. o .senderMade (omega arith);

@@ -101,4 +101,4 @@ module _ (m : State) (s : EverySlot m) where
     linked v hv made ready =
         let in-stores = s .viewAt v hv .viewlinkIn (omega arith) in
         pick-case (ViewlinkSlot (m .stores) (m .made) p v) (eqb (viewlink m p v) 0) _ _
-        (λ e. record { linkIn = omega arith; atStore = λ h. inside; atView = λ h. made }) (λ e. s .viewlinkAt p v hp hv)
+        (λ e. record { linkIn = omega arith; atStore = λ h. inside; atView = λ h. made }) (λ e. s .storeAt p hp .linkAt v hv)

@@ -1,27 +1,32 @@
 -- A slot of an unbroken machine is written: if what is written is as its slot must be, every slot is. Assumes nothing.
 use Prim.Native.Nat.{ℕ, _≤_, _<_}
-use mathlib.Core.Path.{_≡_, sym, subst}
+use mathlib.Core.Path.{_≡_, sym, subst, _∙_}
 use mathlib.Core.Bool.{Bool, false}
 use native.Mathlib.Omega.{arith}
 use lib.ListN.{length-set}
 use lib.Seq.{getD-set-other}
-use Rattle.protocol.specs.Slots.{number, place, noContents, noLinks, noRepair, noEntry, statusNumber}
-use Rattle.protocol.specs.Slots.{view, entry, updateCopies, uackCopies, contents, causeLinks}
-use Rattle.protocol.specs.Writes.{withUpAt, withRecordCopies, withAckCopies, withUpdateCopies, withUackCopies, withViewlink, withRepair, withEntry, withContentsAt, withCauseLinks}
-use Rattle.unbroken.specs.EverySlot.{Sized, RepairSlot, EntrySlot, CopySlot, ContentsSlot, LinksSlot, ViewlinkSlot, EverySlot}
+use Rattle.protocol.specs.Slots.{number, place, noContents, noLinks, noRepair, noEntry, noStore, statusNumber}
+use Rattle.protocol.specs.Slots.{shelf, view, entry, updateCopies, uackCopies, contents, causeLinks}
+use Rattle.protocol.specs.Writes.{withShelf, turned, relinkedAt, withUpAt, withRecordCopies, withAckCopies, withUpdateCopies, withUackCopies, withViewlink, withRepair, withEntry, withContentsAt, withCauseLinks}
+use Rattle.unbroken.specs.EverySlot.{Sized, RepairSlot, EntrySlot, CopySlot, ContentsSlot, LinksSlot, ViewlinkSlot, StoreSlot, EverySlot}
 use Rattle.protocol.specs.declared.State.{State}
 use Rattle.protocol.specs.declared.Repair.{Repair}
 use Rattle.protocol.specs.declared.Entry.{Entry}
 use Rattle.protocol.specs.declared.Contents.{Contents}
 use Rattle.protocol.specs.declared.Links.{Links}
+use Rattle.protocol.specs.declared.Store.{Store}
 use Rattle.keeps.proofs.Index.{at-index, at-place, at-links-place}
 
 module _ (m : State) (s : EverySlot m) where
-  pub up-write : (p : ℕ) (b : Bool) → p < 8 → (m .stores ≤ p → b ≡ false) → EverySlot (withUpAt m p b)
-  up-write p b h f =
-      let z : Sized (withUpAt m p b) = search (length-set, s .sized) in
-      let u = at-index (m .up) 8 p b false (s .sized .up) h (λ q c. m .stores ≤ q → c ≡ false) f (s .upBlank) in
+  -- a whole store
+  store-write : (p : ℕ) → p < 8 → (t : Store) → StoreSlot (m .stores) (m .made) p t → EverySlot (withShelf m p t)
+  store-write p h t c =
+      let z : Sized (withShelf m p t) = search (length-set, s .sized) in
+      let u = at-index (m .shelves) 8 p t noStore (s .sized .shelves) h (StoreSlot (m .stores) (m .made)) c (s .storeAt) in
       search
+
+  pub up-write : (p : ℕ) (b : Bool) → p < 8 → (m .stores ≤ p → b ≡ false) → EverySlot (withUpAt m p b)
+  up-write p b h f = let o = s .storeAt p h in store-write p h (turned (shelf m p) b) (record { upBlank = f; long = o .long; linkAt = o .linkAt })
 
   module _ (p v : ℕ) (hp : p < 8) (hv : v < 32) (n : ℕ) where
     pub record-write : CopySlot (m .stores) p 2 (view m v .phase) n → EverySlot (withRecordCopies m p v n)
@@ -50,9 +55,13 @@ module _ (m : State) (s : EverySlot m) where
 
     pub viewlink-write : ViewlinkSlot (m .stores) (m .made) p v n → EverySlot (withViewlink m p v n)
     viewlink-write c =
-        let z : Sized (withViewlink m p v n) = search (length-set, s .sized) in
-        let u = at-place (m .viewlinks) p v n 0 (s .sized .viewlinks) hp hv (ViewlinkSlot (m .stores) (m .made)) c (s .viewlinkAt) in
-        search
+        let o = s .storeAt p hp in
+        store-write p hp (relinkedAt (shelf m p) v n)
+        (record {
+          upBlank = o .upBlank;
+          long = length-set (shelf m p .viewlinks) v n ∙ o .long;
+          linkAt = at-index (shelf m p .viewlinks) 32 v n 0 (o .long) hv (ViewlinkSlot (m .stores) (m .made) p) c (o .linkAt);
+        })
 
   module _ (v : ℕ) (hv : v < 32) where
     pub repair-write : (r : Repair) → RepairSlot (m .stores) (view m v .phase) r → EverySlot (withRepair m v r)

@@ -11,7 +11,8 @@ use Rattle.protocol.specs.declared.State.{State}
 use Rattle.protocol.specs.declared.View.{View}
 use Rattle.protocol.specs.declared.Status.{Status}
 use Rattle.protocol.specs.declared.Status.the-variants.{ToSend, Waiting, Done}
-use Rattle.protocol.specs.Rule.{head, headView, phased, more}
+use Rattle.protocol.specs.Views.{phased}
+use Rattle.protocol.specs.Rule.{head, headView, more}
 use Rattle.protocol.specs.Send.{sent}
 use Rattle.protocol.specs.Receive.{receivedOf}
 use Rattle.protocol.specs.PreCheck.{checkedView}

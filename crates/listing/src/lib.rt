@@ -1,9 +1,12 @@
 // What the recorder prints of a run, as text: the listing, or the refusal.
 ghost use mathlib.Core.Path.{_≡_};
 ghost use Prim.Native.Nat.{_+_, _<_};
+ghost use lib.ListN.{getD};
+ghost use Rattle.protocol.specs.Slots.{noStore};
 ghost use Rattle.listing.specs.Text.{noText, putOf, wrote};
-ghost use Rattle.protocol.specs.Listing.{large, decimal, refusedLine, countsLine, linkText, placeText, viewLine, lineOf, linesTo, heldOf, listingOf};
+ghost use Rattle.protocol.specs.Listing.{large, decimal, refusedLine, countsLine, linkText, placeText, viewLine, lineOf, linesTo, listingOf};
 use protocol::State;
+use protocol::Store;
 
 // Bytes, and how many of them are written. No listing is longer than 990.
 pub struct Text {
@@ -129,8 +132,8 @@ impl Text {
             return self;
         }
         let w = m.views[v as usize];
-        let viewlinks = m.viewlinks;
-        self.line(v / 2, v % 2, w.phase, w.store, held(viewlinks, w.store, v))
+        let shelves = m.shelves;
+        self.line(v / 2, v % 2, w.phase, w.store, held(shelves, w.store, v))
     }
 
     // Key rising, sender first.
@@ -147,15 +150,16 @@ impl Text {
     }
 }
 
-// The viewlink that a store holds for a view.
-fn held(viewlinks: [u8; 256], store: u8, v: u8) -> u8
-    ensures { λ r. ⌜ r ≡ heldOf viewlinks store v ⌝ }
+// The viewlink that a store holds for a view; one that isn't there holds nothing.
+fn held(shelves: [Store; 8], store: u8, v: u8) -> u8
+    requires { ⌜ v < 32 ⌝ }
+    ensures { λ r. ⌜ r ≡ getD (getD shelves store noStore .viewlinks) v 0 ⌝ }
 {
-    let at = store as usize * 32 + v as usize;
-    if at < 256 {
-        return viewlinks[at];
+    if 8 <= store {
+        return 0;
     }
-    0
+    let s = shelves[store as usize];
+    s.viewlinks[v as usize]
 }
 
 // `refused N`.

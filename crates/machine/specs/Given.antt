@@ -7,10 +7,14 @@ use Rattle.protocol.specs.Outcome.{Outcome}
 use Rattle.protocol.specs.Steps.{ran, answers}
 use Rattle.protocol.specs.declared.State.{State}
 use Rattle.protocol.specs.declared.Step.{Step}
+use Rattle.machine.specs.declared.Machine.{Machine}
 use Rattle.machine.specs.declared.Answered.{Answered}
 
+abbrev pub having : State → Machine
+having m = record { state = m }
+
 abbrev pub given : Outcome → Answered
-given o = record { machine = record { state = o .state }; answer = o .answer }
+given o = record { machine = having (o .state); answer = o .answer }
 
 -- the machine after some steps, and the number of the last, which is k behind the first in the room
 abbrev pub lastOf : State → List Step → ℕ → ℕ → List ℕ → Outcome

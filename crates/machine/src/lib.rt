@@ -3,7 +3,7 @@ ghost use mathlib.Core.Path.{_≡_};
 ghost use Rattle.protocol.specs.Broken.{brokenOf};
 ghost use Rattle.protocol.specs.Setup.{answered, emptyMachine, setupOf};
 ghost use Rattle.protocol.specs.Step.{stepOf};
-ghost use Rattle.machine.specs.Given.{given};
+ghost use Rattle.machine.specs.Given.{given, having};
 use broken::is_broken;
 use protocol::Setup;
 use protocol::State;
@@ -27,7 +27,7 @@ pub struct Answered {
 impl Machine {
     // No stores, actors or interactions.
     pub fn empty() -> Machine
-        ensures { λ r. ⌜ r .state ≡ emptyMachine ⌝ }
+        ensures { λ r. ⌜ r ≡ having emptyMachine ⌝ }
     {
         let state = broken::fresh::empty();
         Machine { state }

@@ -52,13 +52,13 @@ impl Machine {
             let k = v / 2;
             let o = k * 2 + (1 - v % 2);
             let at = p * 32 + v;
-            let over = p * 32 + o;
             let sender = p * 16 + k;
             let queue = m.queues[a];
             let message = m.messages[k];
             let repair = m.repairs[v];
             let facing = m.views[o];
             let other = m.entries[o];
+            let shelf = m.shelves[p];
             let contents = m.contents[at];
             let links = m.links[sender];
             let mut past = no_past();
@@ -81,15 +81,13 @@ impl Machine {
                 entry: e,
                 facing,
                 other,
-                up: m.up[p],
+                shelf,
                 records: m.records[at],
                 acks: m.acks[at],
                 updates: m.updates[at],
                 uacks: m.uacks[at],
                 contents,
                 links,
-                viewlink: m.viewlinks[at],
-                across: m.viewlinks[over],
             };
             let t = x.rule(s);
             let y = t.slots;
@@ -100,6 +98,7 @@ impl Machine {
             let entry = y.entry;
             let facing = y.facing;
             let other = y.other;
+            let shelf = y.shelf;
             let contents = y.contents;
             let links = y.links;
             m.made = made_of(b.making, y.made, m.made);
@@ -110,15 +109,13 @@ impl Machine {
             m.repairs[v] = repair;
             m.entries[v] = entry;
             m.entries[o] = other;
-            m.up[p] = y.up;
+            m.shelves[p] = shelf;
             m.records[at] = y.records;
             m.acks[at] = y.acks;
             m.updates[at] = y.updates;
             m.uacks[at] = y.uacks;
             m.contents[at] = contents;
             m.links[sender] = links;
-            m.viewlinks[at] = y.viewlink;
-            m.viewlinks[over] = y.across;
             room[from + i] = t.answer;
             i += 1;
         }

@@ -22,7 +22,7 @@ use Rattle.unbroken.proofs.Laws.Tests.{and-left, and-right, and-both, or-else, 
 use Rattle.unbroken.proofs.Laws.Every.{below-at, below-each, table-at}
 use Rattle.reaches.specs.Reaches.{keysOf}
 use Rattle.reaches.proofs.Counted.{few}
-use Rattle.reaches.proofs.Keys.{Sound, sound-unmet}
+use Rattle.reaches.proofs.Keys.{Sound, none-met, sound-unmet}
 use Rattle.reaches.proofs.Visited.{visited}
 use Rattle.reaches.proofs.Laws.{Answer, refusing, answering, answer}
 use Rattle.guarantees.specs.Sent.{sentAs}
@@ -46,7 +46,7 @@ walked m k z = go (answer m k)
     go (answering b l f e) =
         let u : Unbroken m = unbroken m b in
         let low : k < 16 = omega (arith, u .made16) in
-        let s : Sound (walkedFrom m k) = visited m u 16 k (view m (number k 0) .store + 1) unmet low low sound-unmet .after .sound in
+        let s : Sound (walkedFrom m k) = visited m u 16 k (view m (number k 0) .store + 1) unmet low low sound-unmet (none-met k) .after .sound in
         record {
           made = l;
           few = omega (arith, ap (λ (r : Walked). r .count) e, few (s .tally));

@@ -16,14 +16,15 @@ use Rattle.protocol.specs.declared.Links.{Links}
 use Rattle.protocol.specs.declared.Message.{Message}
 use Rattle.protocol.specs.declared.Repair.{Repair}
 use Rattle.protocol.specs.declared.Entry.{Entry}
+use Rattle.protocol.specs.declared.Store.{Store}
 
 -- A value of the code has all its slots; a list that stands for one must have them too.
 unfoldable pub slotsFine : State → Bool
 slotsFine m =
-    eqb (length (m .homes)) 8 && eqb (length (m .lists)) 8 && eqb (length (m .queues)) 8 && eqb (length (m .up)) 8
+    eqb (length (m .homes)) 8 && eqb (length (m .lists)) 8 && eqb (length (m .queues)) 8 && eqb (length (m .shelves)) 8
     && eqb (length (m .messages)) 16 && eqb (length (m .views)) 32 && eqb (length (m .repairs)) 32 && eqb (length (m .entries)) 32
     && eqb (length (m .records)) 256 && eqb (length (m .acks)) 256 && eqb (length (m .updates)) 256 && eqb (length (m .uacks)) 256
-    && eqb (length (m .contents)) 256 && eqb (length (m .links)) 128 && eqb (length (m .viewlinks)) 256
+    && eqb (length (m .contents)) 256 && eqb (length (m .links)) 128
 
 -- a number is outside what is said above
 abbrev pub madeFine : ℕ → Bool
@@ -33,12 +34,9 @@ madeFine made = leb made 16
 unfoldable pub setupFine : ℕ → ℕ → List ℕ → List ℕ → Bool
 setupFine stores actors homes lists = (eqb stores 0 && eqb actors 0) || legal stores actors homes lists
 
--- an unused slot isn't blank: the row of an actor behind the last, and a store behind the last
+-- an unused slot isn't blank: the row of an actor behind the last
 unfoldable pub rowsFine : ℕ → List ℕ → Bool
 rowsFine actors l = all (λ a x. ltb a actors || eqb x 0) l
-
-unfoldable pub upFine : ℕ → List Bool → Bool
-upFine stores l = all (λ p up. ltb p stores || not up) l
 
 -- a cause isn't below its key; a link names no store; an unused slot isn't blank: a link with no cause
 abbrev pub linkFine : ℕ → ℕ → ℕ → ℕ → ℕ → Bool
@@ -48,11 +46,11 @@ unfoldable pub linksFine : ℕ → ℕ → ℕ → List ℕ → Bool
 linksFine stores key causes l = eqb (length l) 16 && all (linkFine stores key causes) l
 
 -- in phase 0 just the actor is set; else the current store and the viewlink name stores
+abbrev pub isUnset : View → Bool
+isUnset w = eqb (w .store) 0 && eqb (w .viewlink) 0 && not (w .changed) && eqb (w .causes) 0 && eqb (w .word) 0
+
 abbrev pub phaseFine : ℕ → View → Bool
-phaseFine stores w =
-    pick (eqb (w .phase) 0)
-    (eqb (w .store) 0 && eqb (w .viewlink) 0 && not (w .changed) && eqb (w .causes) 0 && eqb (w .word) 0)
-    (ltb (w .store) stores && ltb (w .viewlink) stores)
+phaseFine stores w = pick (eqb (w .phase) 0) (isUnset w) (ltb (w .store) stores && ltb (w .viewlink) stores)
 
 -- phase 0 is for receivers only; a receiver has no causes; sender equals receiver
 abbrev pub roleFine : ℕ → ℕ → View → Bool
@@ -141,11 +139,15 @@ heldLinksFine contents views at l =
     eqb (length (l .to)) 16 && pick (getD contents (place (at / 16) (at % 16 * 2)) noContents .held) same (all (λ j link. eqb link 0) (l .to))
 
 -- a viewlink names no store; an unused slot isn't blank
-abbrev pub viewlinkFine : ℕ → ℕ → ℕ → ℕ → Bool
-viewlinkFine stores made at l = let used = ltb (at / 32) stores && ltb (at % 32) (made * 2) in eqb l 0 || (leb l stores && used)
+abbrev pub viewlinkFine : ℕ → ℕ → ℕ → ℕ → ℕ → Bool
+viewlinkFine stores made p v l = let used = ltb p stores && ltb v (made * 2) in eqb l 0 || (leb l stores && used)
 
-unfoldable pub viewlinksFine : ℕ → ℕ → List ℕ → Bool
-viewlinksFine stores made l = all (viewlinkFine stores made) l
+unfoldable pub viewlinksFine : ℕ → ℕ → ℕ → List ℕ → Bool
+viewlinksFine stores made p l = eqb (length l) 32 && all (viewlinkFine stores made p) l
+
+-- .. nor is a store behind the last
+unfoldable pub storeFine : ℕ → ℕ → ℕ → Store → Bool
+storeFine stores made p s = (ltb p stores || not (s .up)) && viewlinksFine stores made p (s .viewlinks)
 
 -- the setup, the views with their queues, what is in flight, and what the stores hold
 unfoldable pub jobsFine : State → Bool
@@ -162,13 +164,12 @@ placesFine m =
     && updatesFine (m .stores) (m .entries) (m .updates) && updatesFine (m .stores) (m .entries) (m .uacks)
     && all (contentsFine (m .stores) (m .views)) (m .contents)
     && all (heldLinksFine (m .contents) (m .views)) (m .links)
-    && viewlinksFine (m .stores) (m .made) (m .viewlinks)
+    && all (storeFine (m .stores) (m .made)) (m .shelves)
 
 unfoldable pub wholeOf : State → Bool
 wholeOf m =
     slotsFine m && madeFine (m .made) && setupFine (m .stores) (m .actors) (m .homes) (m .lists)
-    && rowsFine (m .actors) (m .homes) && rowsFine (m .actors) (m .lists) && upFine (m .stores) (m .up)
-    && jobsFine m && placesFine m
+    && rowsFine (m .actors) (m .homes) && rowsFine (m .actors) (m .lists) && jobsFine m && placesFine m
 
 -- a value is broken exactly if one of the clauses says so
 unfoldable pub brokenOf : State → Bool

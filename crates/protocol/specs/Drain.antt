@@ -12,6 +12,7 @@ use Rattle.protocol.specs.declared.View.{View}
 use Rattle.protocol.specs.declared.Queue.{Queue}
 use Rattle.protocol.specs.declared.Repair.{Repair}
 use Rattle.protocol.specs.declared.Entry.{Entry}
+use Rattle.protocol.specs.declared.Store.{Store}
 use Rattle.protocol.specs.Rule.{head, headView}
 use Rattle.protocol.specs.Step.{stepOf}
 use Rattle.protocol.specs.declared.Step.{Step}
@@ -135,11 +136,11 @@ course zero m = stays m
 course (suc n) m = onTurn (turnOf m) (stays m) (λ step. after step (course n (stepOf m step .state)))
 
 -- refused with 1, then with 5 if any store is down
-abbrev pub upIn : ℕ → ℕ → Bool → Bool
-upIn stores p up = leb stores p || up
+abbrev pub upIn : ℕ → ℕ → Store → Bool
+upIn stores p s = leb stores p || s .up
 
 abbrev pub allUp : State → Bool
-allUp m = all (upIn (m .stores)) (m .up)
+allUp m = all (upIn (m .stores)) (m .shelves)
 
 -- its result carries the count
 abbrev pub drained : Course → Drained

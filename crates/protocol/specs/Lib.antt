@@ -1,6 +1,7 @@
 pub mod Numbers
 pub mod Words
 pub mod Outcome
+pub mod Views
 pub mod Slots
 pub mod Writes
 pub mod Setup
@@ -32,3 +33,6 @@ pub mod Run
 pub mod Drain
 pub mod Walk
 pub mod Listing
+pub mod Lent
+pub mod Chain
+pub mod Provn

@@ -1,10 +1,9 @@
 -- What document 01's program prints, byte by byte: 10 a line feed, 32 a space, 45 `-`, 48 to 57 the digits.
 use Prim.Native.Nat.{ℕ, zero, suc, _+_, _*_, _-_, _/_, _%_}
 use mathlib.Core.List.{List, [], _∷_, _++_}
-use lib.ListN.{getD}
 use lib.Dec.{ltb, leb, eqb}
 use Rattle.protocol.specs.Words.{pick}
-use Rattle.protocol.specs.Slots.{place, view}
+use Rattle.protocol.specs.Slots.{view, lastingViewlink}
 use Rattle.protocol.specs.declared.State.{State}
 
 -- the byte of a digit
@@ -48,15 +47,11 @@ unfoldable pub lineOf : ℕ → ℕ → ℕ → ℕ → ℕ → List ℕ
 lineOf key role phase store held =
     decimal key ++ (32 ∷ (decimal role ++ (32 ∷ (decimal phase ++ (32 ∷ placeText phase store held)))))
 
--- a store that isn't there holds nothing
-unfoldable pub heldOf : List ℕ → ℕ → ℕ → ℕ
-heldOf viewlinks store v = pick (ltb (place store v) 256) (getD viewlinks (place store v) 0) 0
-
 -- the line of a view that is made
 unfoldable pub viewLine : State → ℕ → List ℕ
 viewLine m v =
     let w = view m v in
-    pick (leb (m .made * 2) v) [] (lineOf (v / 2) (v % 2) (w .phase) (w .store) (heldOf (m .viewlinks) (w .store) v))
+    pick (leb (m .made * 2) v) [] (lineOf (v / 2) (v % 2) (w .phase) (w .store) (lastingViewlink m (w .store) v))
 
 -- key rising, sender first
 unfoldable pub linesTo : State → ℕ → List ℕ

@@ -4,13 +4,14 @@ use mathlib.Core.Bool.{true, not}
 use mathlib.Core.List.{[], _∷_, _++_}
 use lib.ListN.{drop}
 use Rattle.protocol.specs.Words.{pick}
+use Rattle.protocol.specs.Views.{phased}
 use Rattle.protocol.specs.Slots.{queue, repair}
 use Rattle.protocol.specs.Writes.{withView, withQueue, withRepair}
 use Rattle.protocol.specs.declared.State.{State}
 use Rattle.protocol.specs.declared.View.{View}
 use Rattle.protocol.specs.declared.Queue.{Queue}
 use Rattle.protocol.specs.declared.Repair.{Repair}
-use Rattle.protocol.specs.Rule.{refused, taken, outside, head, headView, headIn, phased}
+use Rattle.protocol.specs.Rule.{refused, taken, outside, head, headView, headIn}
 
 -- Head in phase 4.
 unfoldable pub postCheckNo : State → ℕ → ℕ

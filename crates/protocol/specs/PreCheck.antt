@@ -3,6 +3,7 @@ use Prim.Native.Nat.{ℕ}
 use mathlib.Core.Bool.{_&&_, not}
 use lib.ListN.{getD}
 use Rattle.protocol.specs.Words.{pick, bit, table}
+use Rattle.protocol.specs.Views.{phased, relinked}
 use Rattle.protocol.specs.Slots.{number, view}
 use Rattle.protocol.specs.Writes.{withView}
 use Rattle.protocol.specs.declared.State.{State}
@@ -19,17 +20,7 @@ checkedLink m w j = pick (bit (w .causes) j && view m (number j 1) .changed) (vi
 
 -- Phase 2.
 abbrev pub checkedView : State → View → View
-checkedView m w =
-    record {
-      actor = w .actor;
-      phase = 2;
-      store = w .store;
-      viewlink = w .viewlink;
-      changed = w .changed;
-      causes = w .causes;
-      word = w .word;
-      links = table (checkedLink m w) 16;
-    }
+checkedView m w = phased 2 (relinked (table (checkedLink m w) 16) w)
 
 unfoldable pub preChecked : State → ℕ → State
 preChecked m a = withView m (head m a) (checkedView m (headView m a))

@@ -1,10 +1,11 @@
 -- Step 2, receive: key.
 use Prim.Native.Nat.{ℕ}
-use mathlib.Core.Bool.{false, not}
+use mathlib.Core.Bool.{not}
+use lib.ListN.{replicate}
 use lib.Dec.{eqb}
+use Rattle.protocol.specs.Views.{firstView}
 use Rattle.protocol.specs.Slots.{number, home, queue, message, view, noMessage}
 use Rattle.protocol.specs.Writes.{withQueue, withMessage, withView}
-use Rattle.protocol.specs.Setup.{blankView}
 use Rattle.protocol.specs.declared.State.{State}
 use Rattle.protocol.specs.declared.View.{View}
 use Rattle.protocol.specs.Rule.{refused, taken, outside}
@@ -18,16 +19,7 @@ receiveNo m k = refused 2 (outside k (m .made)) (refused 7 (not (eqb (view m (nu
 abbrev pub receivedView : State → ℕ → View
 receivedView m k =
     let to = view m (number k 1) .actor in
-    record {
-      actor = to;
-      phase = 1;
-      store = home m to;
-      viewlink = message m k .own;
-      changed = false;
-      causes = 0;
-      word = message m k .word;
-      links = blankView .links;
-    }
+    firstView to (home m to) (message m k .own) (message m k .word) 0 (replicate 16 0)
 
 -- The receiver's record joins the queue; the message is no longer in flight.
 unfoldable pub receivedOf : State → ℕ → State

@@ -35,19 +35,6 @@ headView m a = view m (head m a)
 abbrev pub headIn : ℕ → State → ℕ → Bool
 headIn phase m a = not (eqb (queue m a .len) 0) && eqb (headView m a .phase) phase
 
-abbrev pub phased : ℕ → View → View
-phased n w =
-    record {
-      actor = w .actor;
-      phase = n;
-      store = w .store;
-      viewlink = w .viewlink;
-      changed = w .changed;
-      causes = w .causes;
-      word = w .word;
-      links = w .links;
-    }
-
 -- one copy more; a sixteenth is lost at sending
 abbrev pub more : ℕ → ℕ
 more n = pick (ltb n 15) (n + 1) n

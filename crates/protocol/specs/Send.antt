@@ -4,9 +4,9 @@ use mathlib.Core.Bool.{Bool, true, false, _&&_, _||_, not}
 use lib.ListN.{set}
 use lib.Dec.{ltb, leb, eqb}
 use Rattle.protocol.specs.Words.{pick, bit, table, allBelow}
+use Rattle.protocol.specs.Views.{unsetView, firstView}
 use Rattle.protocol.specs.Slots.{number, home, list, queue, view}
 use Rattle.protocol.specs.Writes.{withQueue, withMessage, withViews, withMade}
-use Rattle.protocol.specs.Setup.{blankView}
 use Rattle.protocol.specs.declared.State.{State}
 use Rattle.protocol.specs.declared.View.{View}
 use Rattle.protocol.specs.declared.Queue.{Queue}
@@ -41,21 +41,11 @@ homeLink causes home j = pick (bit causes j) home 0
 
 -- the sender's record: phase 1, store own, viewlink home of to, every cause link home of from
 abbrev pub sentView : State → ℕ → ℕ → ℕ → ℕ → ℕ → View
-sentView m from to own word causes =
-    record {
-      actor = from;
-      phase = 1;
-      store = own;
-      viewlink = home m to;
-      changed = false;
-      causes = causes;
-      word = word;
-      links = table (homeLink causes (home m from)) 16;
-    }
+sentView m from to own word causes = firstView from own (home m to) word causes (table (homeLink causes (home m from)) 16)
 
 -- of the receiver's record just the actor is set
 abbrev pub awaitedView : ℕ → View
-awaitedView to = record { actor = to; phase = 0; store = 0; viewlink = 0; changed = false; causes = 0; word = 0; links = blankView .links }
+awaitedView to = unsetView to
 
 -- The application message, with own store and data, is in flight. The sender's record joins the queue.
 unfoldable pub sent : State → ℕ → ℕ → ℕ → ℕ → ℕ → State

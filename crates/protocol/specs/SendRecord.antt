@@ -1,10 +1,11 @@
 -- Step 4, send record: actor.
 use Prim.Native.Nat.{ℕ}
 use mathlib.Core.Bool.{not}
+use Rattle.protocol.specs.Views.{phased}
 use Rattle.protocol.specs.Slots.{recordCopies}
 use Rattle.protocol.specs.Writes.{withView, withRecordCopies}
 use Rattle.protocol.specs.declared.State.{State}
-use Rattle.protocol.specs.Rule.{refused, taken, outside, head, headView, headIn, phased, more}
+use Rattle.protocol.specs.Rule.{refused, taken, outside, head, headView, headIn, more}
 
 -- Head in phase 2.
 unfoldable pub sendRecordNo : State → ℕ → ℕ

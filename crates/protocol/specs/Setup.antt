@@ -5,13 +5,14 @@ use mathlib.Core.List.{List}
 use lib.ListN.{getD, replicate}
 use lib.Dec.{ltb, leb, eqb}
 use Rattle.protocol.specs.Words.{pick, bit, all, table}
+use Rattle.protocol.specs.Views.{blankView}
 use Rattle.protocol.specs.Slots.{noContents, noMessage, noRepair, noEntry}
 use Rattle.protocol.specs.declared.State.{State}
 use Rattle.protocol.specs.declared.Setup.{Setup}
 use Rattle.protocol.specs.Outcome.{Outcome}
-use Rattle.protocol.specs.declared.View.{View}
 use Rattle.protocol.specs.declared.Queue.{Queue}
 use Rattle.protocol.specs.declared.Links.{Links}
+use Rattle.protocol.specs.declared.Store.{Store}
 
 -- how many stores a list has
 abbrev pub storesIn : ℕ → ℕ
@@ -31,14 +32,14 @@ legal stores actors homes lists =
     leb 2 stores && leb stores 8 && leb 2 actors && leb actors 8 && legalActors stores actors homes lists
 
 -- a slot with nothing in it: zeros and nothings
-abbrev pub blankView : View
-blankView = record { actor = 0; phase = 0; store = 0; viewlink = 0; changed = false; causes = 0; word = 0; links = replicate 16 0 }
-
 abbrev pub blankQueue : Queue
 blankQueue = record { len = 0; views = replicate 16 0 }
 
 abbrev pub blankLinks : Links
 blankLinks = record { to = replicate 16 0 }
+
+abbrev pub freshStore : Bool → Store
+freshStore up = record { up = up; viewlinks = replicate 32 0 }
 
 -- what an actor's row says, blank behind the last actor
 abbrev pub ofActors : ℕ → List ℕ → ℕ → ℕ
@@ -54,7 +55,7 @@ freshWith stores actors homes lists =
       homes = table (ofActors actors homes) 8;
       lists = table (ofActors actors lists) 8;
       queues = replicate 8 blankQueue;
-      up = table (λ p. ltb p stores) 8;
+      shelves = table (λ p. freshStore (ltb p stores)) 8;
       messages = replicate 16 noMessage;
       views = replicate 32 blankView;
       repairs = replicate 32 noRepair;
@@ -65,7 +66,6 @@ freshWith stores actors homes lists =
       uacks = replicate 256 0;
       contents = replicate 256 noContents;
       links = replicate 128 blankLinks;
-      viewlinks = replicate 256 0;
     }
 
 -- no stores, actors or interactions

@@ -11,8 +11,10 @@ use Rattle.protocol.specs.declared.Links.{Links}
 use Rattle.protocol.specs.declared.Message.{Message}
 use Rattle.protocol.specs.declared.Repair.{Repair}
 use Rattle.protocol.specs.declared.Entry.{Entry}
+use Rattle.protocol.specs.declared.Store.{Store}
 use Rattle.protocol.specs.declared.Status.the-variants.{Nothing}
 pub use Rattle.protocol.specs.Numbers.{statusNumber}
+pub use Rattle.protocol.specs.Views.{noView}
 
 -- the number of a view: role 0 the sender's, role 1 the receiver's
 abbrev pub number : ℕ → ℕ → ℕ
@@ -26,9 +28,6 @@ abbrev pub linksPlace : ℕ → ℕ → ℕ
 linksPlace store key = store * 16 + key
 
 -- what a read past the slots gives
-abbrev pub noView : View
-noView = record { actor = 0; phase = 0; store = 0; viewlink = 0; changed = false; causes = 0; word = 0; links = [] }
-
 abbrev pub noQueue : Queue
 noQueue = record { len = 0; views = [] }
 
@@ -47,6 +46,9 @@ noRepair = record { flying = false; destination = 0; own = 0 }
 abbrev pub noEntry : Entry
 noEntry = record { status = Nothing; destination = 0; own = 0 }
 
+abbrev pub noStore : Store
+noStore = record { up = false; viewlinks = [] }
+
 -- by actor
 abbrev pub home : State → ℕ → ℕ
 home m a = getD (m .homes) a 0
@@ -62,8 +64,11 @@ abbrev pub standing : Queue → List ℕ
 standing q = take (q .len) (q .views)
 
 -- by store
+abbrev pub shelf : State → ℕ → Store
+shelf m p = getD (m .shelves) p noStore
+
 abbrev pub isUp : State → ℕ → Bool
-isUp m p = getD (m .up) p false
+isUp m p = shelf m p .up
 
 -- by interaction, and by view
 abbrev pub message : State → ℕ → Message
@@ -99,4 +104,14 @@ abbrev pub causeLinks : State → ℕ → ℕ → List ℕ
 causeLinks m p k = getD (m .links) (linksPlace p k) noLinks .to
 
 abbrev pub viewlink : State → ℕ → ℕ → ℕ
-viewlink m p v = getD (m .viewlinks) (place p v) 0
+viewlink m p v = getD (shelf m p .viewlinks) v 0
+
+-- what lasts in a store, whatever becomes of it: what the walk, the listing and the guarantees read
+abbrev pub lastingContents : State → ℕ → ℕ → Contents
+lastingContents m p v = contents m p v
+
+abbrev pub lastingCauseLinks : State → ℕ → ℕ → List ℕ
+lastingCauseLinks m p k = causeLinks m p k
+
+abbrev pub lastingViewlink : State → ℕ → ℕ → ℕ
+lastingViewlink m p v = viewlink m p v

@@ -3,11 +3,12 @@ use Prim.Native.Nat.{ℕ, _-_}
 use mathlib.Core.Bool.{Bool, _&&_, _||_, not}
 use lib.Dec.{eqb}
 use Rattle.protocol.specs.Words.{pick}
+use Rattle.protocol.specs.Views.{phased}
 use Rattle.protocol.specs.Slots.{number, queue, view, ackCopies}
 use Rattle.protocol.specs.Writes.{withView, withAckCopies}
 use Rattle.protocol.specs.declared.State.{State}
 use Rattle.protocol.specs.declared.View.{View}
-use Rattle.protocol.specs.Rule.{refused, taken, outside, head, phased}
+use Rattle.protocol.specs.Rule.{refused, taken, outside, head}
 
 -- A copy in flight.
 unfoldable pub takeAckNo : State → ℕ → ℕ → ℕ → ℕ

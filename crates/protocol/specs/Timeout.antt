@@ -1,8 +1,9 @@
 -- Step 5, timeout: actor, store.
 use Prim.Native.Nat.{ℕ}
-use mathlib.Core.Bool.{true, _||_, not}
+use mathlib.Core.Bool.{_||_, not}
 use lib.Dec.{eqb}
 use Rattle.protocol.specs.Words.{bit}
+use Rattle.protocol.specs.Views.{phased, movedTo}
 use Rattle.protocol.specs.Slots.{list}
 use Rattle.protocol.specs.Writes.{withView}
 use Rattle.protocol.specs.declared.State.{State}
@@ -17,17 +18,7 @@ timeoutNo m a p =
 
 -- It becomes current, changed is set, phase 2.
 abbrev pub movedView : ℕ → View → View
-movedView p w =
-    record {
-      actor = w .actor;
-      phase = 2;
-      store = p;
-      viewlink = w .viewlink;
-      changed = true;
-      causes = w .causes;
-      word = w .word;
-      links = w .links;
-    }
+movedView p w = phased 2 (movedTo p w)
 
 unfoldable pub timedOut : State → ℕ → ℕ → State
 timedOut m a p = withView m (head m a) (movedView p (headView m a))

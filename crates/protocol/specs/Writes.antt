@@ -3,7 +3,7 @@ use Prim.Native.Nat.{ℕ}
 use mathlib.Core.Bool.{Bool}
 use mathlib.Core.List.{List}
 use lib.ListN.{set}
-use Rattle.protocol.specs.Slots.{place, linksPlace}
+use Rattle.protocol.specs.Slots.{place, linksPlace, shelf}
 use Rattle.protocol.specs.declared.State.{State}
 use Rattle.protocol.specs.declared.View.{View}
 use Rattle.protocol.specs.declared.Queue.{Queue}
@@ -12,6 +12,7 @@ use Rattle.protocol.specs.declared.Links.{Links}
 use Rattle.protocol.specs.declared.Message.{Message}
 use Rattle.protocol.specs.declared.Repair.{Repair}
 use Rattle.protocol.specs.declared.Entry.{Entry}
+use Rattle.protocol.specs.declared.Store.{Store}
 
 abbrev pub withMade : State → ℕ → State
 withMade m x =
@@ -22,7 +23,7 @@ withMade m x =
       homes = m .homes;
       lists = m .lists;
       queues = m .queues;
-      up = m .up;
+      shelves = m .shelves;
       messages = m .messages;
       views = m .views;
       repairs = m .repairs;
@@ -33,7 +34,6 @@ withMade m x =
       uacks = m .uacks;
       contents = m .contents;
       links = m .links;
-      viewlinks = m .viewlinks;
     }
 
 abbrev pub withQueues : State → List Queue → State
@@ -45,7 +45,7 @@ withQueues m x =
       homes = m .homes;
       lists = m .lists;
       queues = x;
-      up = m .up;
+      shelves = m .shelves;
       messages = m .messages;
       views = m .views;
       repairs = m .repairs;
@@ -56,11 +56,10 @@ withQueues m x =
       uacks = m .uacks;
       contents = m .contents;
       links = m .links;
-      viewlinks = m .viewlinks;
     }
 
-abbrev pub withUp : State → List Bool → State
-withUp m x =
+abbrev pub withShelves : State → List Store → State
+withShelves m x =
     record {
       stores = m .stores;
       actors = m .actors;
@@ -68,7 +67,7 @@ withUp m x =
       homes = m .homes;
       lists = m .lists;
       queues = m .queues;
-      up = x;
+      shelves = x;
       messages = m .messages;
       views = m .views;
       repairs = m .repairs;
@@ -79,7 +78,6 @@ withUp m x =
       uacks = m .uacks;
       contents = m .contents;
       links = m .links;
-      viewlinks = m .viewlinks;
     }
 
 abbrev pub withMessages : State → List Message → State
@@ -91,7 +89,7 @@ withMessages m x =
       homes = m .homes;
       lists = m .lists;
       queues = m .queues;
-      up = m .up;
+      shelves = m .shelves;
       messages = x;
       views = m .views;
       repairs = m .repairs;
@@ -102,7 +100,6 @@ withMessages m x =
       uacks = m .uacks;
       contents = m .contents;
       links = m .links;
-      viewlinks = m .viewlinks;
     }
 
 abbrev pub withViews : State → List View → State
@@ -114,7 +111,7 @@ withViews m x =
       homes = m .homes;
       lists = m .lists;
       queues = m .queues;
-      up = m .up;
+      shelves = m .shelves;
       messages = m .messages;
       views = x;
       repairs = m .repairs;
@@ -125,7 +122,6 @@ withViews m x =
       uacks = m .uacks;
       contents = m .contents;
       links = m .links;
-      viewlinks = m .viewlinks;
     }
 
 abbrev pub withRepairs : State → List Repair → State
@@ -137,7 +133,7 @@ withRepairs m x =
       homes = m .homes;
       lists = m .lists;
       queues = m .queues;
-      up = m .up;
+      shelves = m .shelves;
       messages = m .messages;
       views = m .views;
       repairs = x;
@@ -148,7 +144,6 @@ withRepairs m x =
       uacks = m .uacks;
       contents = m .contents;
       links = m .links;
-      viewlinks = m .viewlinks;
     }
 
 abbrev pub withEntries : State → List Entry → State
@@ -160,7 +155,7 @@ withEntries m x =
       homes = m .homes;
       lists = m .lists;
       queues = m .queues;
-      up = m .up;
+      shelves = m .shelves;
       messages = m .messages;
       views = m .views;
       repairs = m .repairs;
@@ -171,7 +166,6 @@ withEntries m x =
       uacks = m .uacks;
       contents = m .contents;
       links = m .links;
-      viewlinks = m .viewlinks;
     }
 
 abbrev pub withRecords : State → List ℕ → State
@@ -183,7 +177,7 @@ withRecords m x =
       homes = m .homes;
       lists = m .lists;
       queues = m .queues;
-      up = m .up;
+      shelves = m .shelves;
       messages = m .messages;
       views = m .views;
       repairs = m .repairs;
@@ -194,7 +188,6 @@ withRecords m x =
       uacks = m .uacks;
       contents = m .contents;
       links = m .links;
-      viewlinks = m .viewlinks;
     }
 
 abbrev pub withAcks : State → List ℕ → State
@@ -206,7 +199,7 @@ withAcks m x =
       homes = m .homes;
       lists = m .lists;
       queues = m .queues;
-      up = m .up;
+      shelves = m .shelves;
       messages = m .messages;
       views = m .views;
       repairs = m .repairs;
@@ -217,7 +210,6 @@ withAcks m x =
       uacks = m .uacks;
       contents = m .contents;
       links = m .links;
-      viewlinks = m .viewlinks;
     }
 
 abbrev pub withUpdates : State → List ℕ → State
@@ -229,7 +221,7 @@ withUpdates m x =
       homes = m .homes;
       lists = m .lists;
       queues = m .queues;
-      up = m .up;
+      shelves = m .shelves;
       messages = m .messages;
       views = m .views;
       repairs = m .repairs;
@@ -240,7 +232,6 @@ withUpdates m x =
       uacks = m .uacks;
       contents = m .contents;
       links = m .links;
-      viewlinks = m .viewlinks;
     }
 
 abbrev pub withUacks : State → List ℕ → State
@@ -252,7 +243,7 @@ withUacks m x =
       homes = m .homes;
       lists = m .lists;
       queues = m .queues;
-      up = m .up;
+      shelves = m .shelves;
       messages = m .messages;
       views = m .views;
       repairs = m .repairs;
@@ -263,7 +254,6 @@ withUacks m x =
       uacks = x;
       contents = m .contents;
       links = m .links;
-      viewlinks = m .viewlinks;
     }
 
 abbrev pub withContents : State → List Contents → State
@@ -275,7 +265,7 @@ withContents m x =
       homes = m .homes;
       lists = m .lists;
       queues = m .queues;
-      up = m .up;
+      shelves = m .shelves;
       messages = m .messages;
       views = m .views;
       repairs = m .repairs;
@@ -286,7 +276,6 @@ withContents m x =
       uacks = m .uacks;
       contents = x;
       links = m .links;
-      viewlinks = m .viewlinks;
     }
 
 abbrev pub withLinks : State → List Links → State
@@ -298,7 +287,7 @@ withLinks m x =
       homes = m .homes;
       lists = m .lists;
       queues = m .queues;
-      up = m .up;
+      shelves = m .shelves;
       messages = m .messages;
       views = m .views;
       repairs = m .repairs;
@@ -309,30 +298,6 @@ withLinks m x =
       uacks = m .uacks;
       contents = m .contents;
       links = x;
-      viewlinks = m .viewlinks;
-    }
-
-abbrev pub withViewlinks : State → List ℕ → State
-withViewlinks m x =
-    record {
-      stores = m .stores;
-      actors = m .actors;
-      made = m .made;
-      homes = m .homes;
-      lists = m .lists;
-      queues = m .queues;
-      up = m .up;
-      messages = m .messages;
-      views = m .views;
-      repairs = m .repairs;
-      entries = m .entries;
-      records = m .records;
-      acks = m .acks;
-      updates = m .updates;
-      uacks = m .uacks;
-      contents = m .contents;
-      links = m .links;
-      viewlinks = x;
     }
 
 -- by actor
@@ -340,8 +305,15 @@ abbrev pub withQueue : State → ℕ → Queue → State
 withQueue m i x = withQueues m (set (m .queues) i x)
 
 -- by store
+abbrev pub withShelf : State → ℕ → Store → State
+withShelf m i x = withShelves m (set (m .shelves) i x)
+
+-- .., up or down
+abbrev pub turned : Store → Bool → Store
+turned s b = record { up = b; viewlinks = s .viewlinks }
+
 abbrev pub withUpAt : State → ℕ → Bool → State
-withUpAt m i x = withUp m (set (m .up) i x)
+withUpAt m p b = withShelf m p (turned (shelf m p) b)
 
 -- by interaction, and by view
 abbrev pub withMessage : State → ℕ → Message → State
@@ -376,5 +348,8 @@ withContentsAt m p v c = withContents m (set (m .contents) (place p v) c)
 abbrev pub withCauseLinks : State → ℕ → ℕ → Links → State
 withCauseLinks m p k l = withLinks m (set (m .links) (linksPlace p k) l)
 
+abbrev pub relinkedAt : Store → ℕ → ℕ → Store
+relinkedAt s v l = record { up = s .up; viewlinks = set (s .viewlinks) v l }
+
 abbrev pub withViewlink : State → ℕ → ℕ → ℕ → State
-withViewlink m p v l = withViewlinks m (set (m .viewlinks) (place p v) l)
+withViewlink m p v l = withShelf m p (relinkedAt (shelf m p) v l)

@@ -1,9 +1,10 @@
-// The types of document 01, and no function: the machine's value, a step, and what the calls hand back.
+// The types of document 01: the machine's value, a step, and what the calls hand back.
 //
 // A view's number is key * 2 + role; a place is store * 32 + view's number.
 
 ghost use mathlib.Core.Path.{_≡_};
 ghost use Rattle.protocol.specs.Numbers.{statusNumber};
+ghost use Rattle.protocol.specs.Views.{unsetView};
 
 // A view's record at its actor. In phase 0 only the actor is set.
 pub struct View {
@@ -17,6 +18,23 @@ pub struct View {
     pub causes: u16,
     pub word: u32,
     pub links: [u8; 16],
+}
+
+// Just the actor is set.
+pub fn unset_view(actor: u8) -> View
+    ensures { λ r. ⌜ r ≡ unsetView actor ⌝ }
+{
+    let links = [0u8; 16];
+    View {
+        actor,
+        phase: 0,
+        store: 0,
+        viewlink: 0,
+        changed: false,
+        causes: 0,
+        word: 0,
+        links,
+    }
 }
 
 // An actor's queue: views' numbers, oldest first.
@@ -36,6 +54,12 @@ pub struct Contents {
 // The cause links of a sender's contents.
 pub struct Links {
     pub to: [u8; 16],
+}
+
+// A store: up or down; its viewlinks by view, 0 for none and p + 1 for store p.
+pub struct Store {
+    pub up: bool,
+    pub viewlinks: [u8; 32],
 }
 
 // An application message: nothing, or the own store and data word that were sent.
@@ -88,7 +112,7 @@ pub struct State {
     pub lists: [u8; 8],
     pub queues: [Queue; 8],
     // By store.
-    pub up: [bool; 8],
+    pub shelves: [Store; 8],
     // By interaction, and by view.
     pub messages: [Message; 16],
     pub views: [View; 32],
@@ -99,11 +123,9 @@ pub struct State {
     pub acks: [u8; 256],
     pub updates: [u8; 256],
     pub uacks: [u8; 256],
-    // What the stores hold, by place: contents; the cause links of senders, at store * 16 + key;
-    // and the viewlinks, 0 for none and p + 1 for store p.
+    // What the stores hold of the views' records, by place: contents; the cause links of senders, at store * 16 + key.
     pub contents: [Contents; 256],
     pub links: [Links; 128],
-    pub viewlinks: [u8; 256],
 }
 
 // What a setup is made from: rows behind the last actor are not looked at.
@@ -218,11 +240,27 @@ pub struct Met {
     pub met: [bool; 16],
     pub keys: [u8; 16],
     pub count: u8,
+    // How many store entries were looked up.
+    pub lookups: u8,
 }
 
-// What a walk answers: no keys where it is refused.
+// What a walk answers: no keys and no lookups where it is refused.
 pub struct Walked {
     pub answer: u8,
     pub keys: [u8; 16],
     pub count: u8,
+    pub lookups: u8,
+}
+
+// An interaction as its sender record states it: its key, who sent it, and its causes, bit k for interaction k.
+pub struct Interaction {
+    pub key: u8,
+    pub sender: u8,
+    pub causes: u16,
+}
+
+// What writing into a lent buffer gives: the count of bytes, 0 where it is refused.
+pub struct Written {
+    pub answer: u8,
+    pub len: u16,
 }

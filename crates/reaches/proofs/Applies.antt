@@ -17,7 +17,7 @@ use Rattle.protocol.specs.Broken.{brokenOf}
 use Rattle.protocol.specs.Closed.{closedOf}
 use Rattle.protocol.specs.declared.State.{State}
 use Rattle.protocol.specs.declared.Met.{Met}
-use Rattle.protocol.specs.Walk.{added, spoiled, foundOf, causesHeld, hopOf, each, visitOf, unmet, walkedFrom, refusedWalk, walkOf}
+use Rattle.protocol.specs.Walk.{added, spoiled, lookedUp, foundOf, causesHeld, hopOf, each, toCause, visitOf, unmet, walkedFrom, refusedWalk, walkOf}
 use Rattle.unbroken.proofs.Laws.{unbroken}
 use Rattle.unbroken.proofs.Laws.Tests.{by-test, not-both, and-left, and-right, and-both, or-of, not-of}
 use Rattle.unbroken.proofs.Laws.Says.{Says}
@@ -69,15 +69,19 @@ module _ (m : State) where
       go true = f j l x h
       go false = h
 
+  stay : (i : List Lookup) {i′ : List Lookup} (b : Bool) {y : Lookup} → List·Memᴰ y i → List·Memᴰ y i′ → List·Memᴰ y (pick b i i′)
+  stay i true g g′ = g
+  stay i false g g′ = g′
+
+  -- a cause as the list has it
+  abbrev listed-cause : ℕ → ℕ → ℕ → ℕ → List Lookup → List Lookup
+  listed-cause depth k link j l = pick (met l j) l (looked depth m j (hopOf m k link j) l)
+
   looked-grows : (depth k link : ℕ) (l : List Lookup) (x : Lookup) → List·Memᴰ x l → List·Memᴰ x (looked depth m k link l)
   unfolding looked
   looked-grows zero k link l x h = h
   looked-grows (suc depth) k link l x h =
-      go (met l k) (each-grows (λ j. looked depth m j (hopOf m k link j)) (λ j i y g. looked-grows depth j (hopOf m k link j) i y g) (causesHeld m k link) k 0 (l ++ (at k link ∷ [])) x (Memᴰ·append-left (at k link ∷ []) h))
-    where
-      go : {l′ : List Lookup} (b : Bool) → List·Memᴰ x l′ → List·Memᴰ x (pick b l l′)
-      go true g = h
-      go false g = g
+      each-grows (listed-cause depth k link) (λ j i y g. stay i (met i j) g (looked-grows depth j (hopOf m k link j) i y g)) (causesHeld m k link) k 0 (l ++ (at k link ∷ [])) x (Memᴰ·append-left (at k link ∷ []) h)
 
   -- the search, and the list of what it looked up
   record Beside (w : Met) (l : List Lookup) : Type 0 where
@@ -140,34 +144,38 @@ module _ (m : State) where
       go true = f j w l (omega arith) b
       go false = b
 
-  -- one visit, by the four tests of the search and the list
-  module _ (depth k link : ℕ) (w : Met) (l : List Lookup) (low : k < 16) (b : Beside w l)
-      (onward : (j : ℕ) (v : Met) (i : List Lookup) → j < k → Beside v i → Beside (visitOf depth m j (hopOf m k link j) v) (looked depth m j (hopOf m k link j) i)) where
-    abbrev search : Met
-    search = each (λ j. visitOf depth m j (hopOf m k link j)) (causesHeld m k link) k 0 (added w k)
+  beside-looked : {w : Met} {l : List Lookup} → Beside w l → Beside (lookedUp w) l
+  beside-looked b =
+      record { tally = record { long = b .tally .long; counted = b .tally .counted }; room = b .room; same = b .same; good = b .good; bad = b .bad; listed = b .listed }
 
-    abbrev listing : List Lookup
-    listing = eachOf (λ j. looked depth m j (hopOf m k link j)) (causesHeld m k link) k 0 (l ++ (at k link ∷ []))
+  -- a cause, by the tests of the search and of the list
+  module _ (depth k link j : ℕ) (w : Met) (l : List Lookup) (b : Beside w l)
+      (visit : w .fine ≡ true → getD (w .met) j false ≡ false → Beside (visitOf depth m j (hopOf m k link j) (lookedUp w)) (looked depth m j (hopOf m k link j) l)) where
+    turn : (fine seen listed : Bool) → w .fine ≡ fine → getD (w .met) j false ≡ seen → met l j ≡ listed
+        → Beside (pick (fine && not seen) (visitOf depth m j (hopOf m k link j) (lookedUp w)) w) (pick listed l (looked depth m j (hopOf m k link j) l))
+    turn false seen true e s n = b
+    turn false seen false e s n = let x = b .bad e in beside-bad (b .tally) (b .room) e (x .0) (looked-grows depth j (hopOf m k link j) l (x .0) (x .1)) (x .2)
+    turn true true true e s n = b
+    turn true true false e s n = not-both (met l j) (sym (b .same e j) ∙ s) n
+    turn true false true e s n = not-both (met l j) n (sym (b .same e j) ∙ s)
+    turn true false false e s n = visit e s
 
-    stays-in : (x : Lookup) → List·Memᴰ x (l ++ (at k link ∷ [])) → List·Memᴰ x listing
-    stays-in x h = each-grows (λ j. looked depth m j (hopOf m k link j)) (λ j i y g. looked-grows depth j (hopOf m k link j) i y g) (causesHeld m k link) k 0 (l ++ (at k link ∷ [])) x h
-
-    turn : (fine seen found listed : Bool) → w .fine ≡ fine → getD (w .met) k false ≡ seen → foundOf m k link ≡ found → met l k ≡ listed
-        → Beside (pick (not fine) w (pick seen w (pick found search (spoiled w)))) (pick listed l listing)
-    turn false seen found true e s f n = b
-    turn false seen found false e s f n = let x = b .bad e in beside-bad (b .tally) (b .room) e (x .0) (stays-in (x .0) (Memᴰ·append-left (at k link ∷ []) (x .1))) (x .2)
-    turn true true found true e s f n = b
-    turn true true found false e s f n = not-both (met l k) (sym (b .same e k) ∙ s) n
-    turn true false found true e s f n = not-both (met l k) n (sym (b .same e k) ∙ s)
-    turn true false true false e s f n =
-        each-beside (λ j. visitOf depth m j (hopOf m k link j)) (λ j. looked depth m j (hopOf m k link j)) k onward (causesHeld m k link) k 0 (added w k) (l ++ (at k link ∷ [])) (omega arith) (beside-added k link low e s f b)
-    turn true false false false e s f n = beside-bad (record { long = b .tally .long; counted = b .tally .counted }) (b .room) refl (at k link) (stays-in (at k link) (Memᴰ·append-right l (List·Memᴰ·head refl))) f
-
-  visit-beside : (depth k link : ℕ) (w : Met) (l : List Lookup) → k < 16 → Beside w l → Beside (visitOf depth m k link w) (looked depth m k link l)
+  visit-beside : (depth k link : ℕ) (w : Met) (l : List Lookup) → k < depth → k < 16 → w .fine ≡ true → getD (w .met) k false ≡ false → Beside w l → Beside (visitOf depth m k link w) (looked depth m k link l)
   unfolding visitOf looked
-  visit-beside zero k link w l low b = b
-  visit-beside (suc depth) k link w l low b =
-      turn depth k link w l low b (λ j v i h c. visit-beside depth j (hopOf m k link j) v i (omega arith) c) (w .fine) (getD (w .met) k false) (foundOf m k link) (met l k) refl refl refl refl
+  visit-beside zero k link w l deep low fine new b = let z : ⊥ = omega arith in absurd z
+  visit-beside (suc depth) k link w l deep low fine new b =
+      go (λ j v i h f n c. visit-beside depth j (hopOf m k link j) v i (omega arith) (omega arith) f n c) (foundOf m k link) refl
+    where
+      go : ((j : ℕ) (v : Met) (i : List Lookup) → j < k → v .fine ≡ true → getD (v .met) j false ≡ false → Beside v i → Beside (visitOf depth m j (hopOf m k link j) v) (looked depth m j (hopOf m k link j) i))
+          → (found : Bool) → foundOf m k link ≡ found
+          → Beside (pick found (each (toCause (visitOf depth m) m k link) (causesHeld m k link) k 0 (added (lookedUp w) k)) (spoiled w)) (eachOf (listed-cause depth k link) (causesHeld m k link) k 0 (l ++ (at k link ∷ [])))
+      go visits true f =
+          each-beside (toCause (visitOf depth m) m k link) (listed-cause depth k link) k
+          (λ j v i h c. turn depth k link j v i c (λ g n. visits j (lookedUp v) i h g n (beside-looked c)) (v .fine) (getD (v .met) j false) (met i j) refl refl refl)
+          (causesHeld m k link) k 0 (added (lookedUp w) k) (l ++ (at k link ∷ [])) (omega arith) (beside-added k link low fine new f (beside-looked b))
+      go visits false f =
+          beside-bad (record { long = b .tally .long; counted = b .tally .counted }) (b .room) refl (at k link)
+          (each-grows (listed-cause depth k link) (λ j i y g. stay i (met i j) g (looked-grows depth j (hopOf m k link j) i y g)) (causesHeld m k link) k 0 (l ++ (at k link ∷ [])) (at k link) (Memᴰ·append-right l (List·Memᴰ·head refl))) f
 
   -- what isn't found, in words
   unfound : (x : Lookup) → Lacking x → Unfound m x
@@ -219,7 +227,7 @@ module _ (m : State) where
     -- the search is spoiled exactly if it looked up what isn't found
     begun : brokenOf m ≡ false → k < m .made → Beside (walkedFrom m k) (lookups m k)
     unfolding walkedFrom
-    begun u l = let made = unbroken m u .made16 in visit-beside 16 k (view m (number k 0) .store + 1) unmet [] (omega arith) beside-start
+    begun u l = let made = unbroken m u .made16 in visit-beside 16 k (view m (number k 0) .store + 1) unmet [] (omega arith) (omega arith) refl (none-met k) beside-start
 
     spoiled-says : brokenOf m ≡ false → k < m .made → Says (not (walkedFrom m k .fine)) (Applies m k 13)
     spoiled-says u l =
@@ -229,7 +237,7 @@ module _ (m : State) where
           told = λ a. let x = told-unfound a refl in by-test (walkedFrom m k .fine) (λ f. absurd (not-found (x .0) (x .2) (b .good f (x .0) (x .1)))) (λ f. not-of (walkedFrom m k .fine) f);
         }
 
-answer-is : (w : Met) (broken out fine : Bool) → pick broken 1 (pick out 2 (pick (not fine) 13 0)) ≡ (pick broken (refusedWalk 1) (pick out (refusedWalk 2) (pick fine (record { answer = 0; keys = w .keys; count = w .count }) (refusedWalk 13)))) .answer
+answer-is : (w : Met) (broken out fine : Bool) → pick broken 1 (pick out 2 (pick (not fine) 13 0)) ≡ (pick broken (refusedWalk 1) (pick out (refusedWalk 2) (pick fine (record { answer = 0; keys = w .keys; count = w .count; lookups = w .lookups }) (refusedWalk 13)))) .answer
 answer-is w true out fine = refl
 answer-is w false true fine = refl
 answer-is w false false true = refl

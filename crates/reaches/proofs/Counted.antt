@@ -14,18 +14,18 @@ one-low : (b : Bool) → one b ≤ 1
 one-low true = omega arith
 one-low false = omega arith
 
-ones-low : (l : List Bool) → ones l ≤ length l
+pub ones-low : (l : List Bool) → ones l ≤ length l
 unfolding ones
 ones-low [] = omega arith
 ones-low (b ∷ l) = omega (arith, ones-low l, one-low b)
 
-ones-room : (l : List Bool) (k : ℕ) → k < length l → getD l k false ≡ false → ones l < length l
+pub ones-room : (l : List Bool) (k : ℕ) → k < length l → getD l k false ≡ false → ones l < length l
 unfolding ones
 ones-room [] k h e = let z : ⊥ = omega arith in absurd z
 ones-room (b ∷ l) zero h e = omega (arith, ones-low l, ap one e)
 ones-room (b ∷ l) (suc k) h e = omega (arith, ones-room l k (omega arith) e, one-low b)
 
-ones-set : (l : List Bool) (k : ℕ) → k < length l → getD l k false ≡ false → ones (set l k true) ≡ ones l + 1
+pub ones-set : (l : List Bool) (k : ℕ) → k < length l → getD l k false ≡ false → ones (set l k true) ≡ ones l + 1
 unfolding ones
 ones-set [] k h e = let z : ⊥ = omega arith in absurd z
 ones-set (b ∷ l) zero h e = omega (arith, ap one e)

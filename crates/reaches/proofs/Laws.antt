@@ -1,6 +1,6 @@
 -- The walk's promise has one result; an answered walk has exactly the keys that are reached, each once; a refused one has none.
 -- By what a visit from the start meets. Assumes nothing.
-use Prim.Native.Nat.{ℕ, _+_, _≤_, _<_}
+use Prim.Native.Nat.{ℕ, _+_, _*_, _-_, _≤_, _<_}
 use mathlib.Core.Path.{_≡_, refl, sym, ap, subst, _∙_}
 use mathlib.Core.Logic.{_≢_, ⊎-elim}
 use mathlib.Core.Bool.{true, false}
@@ -18,9 +18,10 @@ use Rattle.unbroken.proofs.Laws.Tests.{by-test, not-both}
 use Rattle.protocol.specs.declared.Walked.{Walked}
 use Rattle.protocol.specs.Walk.{unmet, walkedFrom, refusedWalk, walkOf}
 use Rattle.reaches.proofs.Counted.{few}
-use Rattle.reaches.specs.Reaches.{Reach, here, by, Exactly, OneResult, AnsweredReaches, KeysFew, RefusedEmpty}
+use Rattle.reaches.specs.Reaches.{Reach, here, by, Exactly, OneResult, AnsweredReaches, KeysFew, RefusedEmpty, LookupsExactly}
 use Rattle.reaches.proofs.Keys.{IsMet, none-met, sound-unmet}
 use Rattle.reaches.proofs.Visited.{Visited, visited}
+use Rattle.reaches.proofs.Looked.{visit-looked}
 
 pub one-result : OneResult
 one-result m k x y p q = only (walkOf m k) x y p q
@@ -29,7 +30,7 @@ one-result m k x y p q = only (walkOf m k) x y p q
 pub data Answer (m : State) (k : ℕ) (r : Walked) : Type 0 where
   refusing : (n : ℕ) → n ≢ 0 → r ≡ refusedWalk n → Answer m k r
   answering : brokenOf m ≡ false → k < m .made → walkedFrom m k .fine ≡ true
-      → r ≡ record { answer = 0; keys = walkedFrom m k .keys; count = walkedFrom m k .count } → Answer m k r
+      → r ≡ record { answer = 0; keys = walkedFrom m k .keys; count = walkedFrom m k .count; lookups = walkedFrom m k .lookups } → Answer m k r
 
 pub answer : (m : State) (k : ℕ) → Answer m k (walkOf m k)
 unfolding walkOf
@@ -48,8 +49,8 @@ answer-of {m} {k} {r} p = subst (λ (x : Walked). Answer m k x) (sym p) (answer 
 pub refused-empty : RefusedEmpty
 refused-empty m k r p z = go (answer-of p)
   where
-    go : Answer m k r → (r .keys ≡ replicate 16 0) × (r .count ≡ 0)
-    go (refusing n h e) = (ap (λ (x : Walked). x .keys) e, ap (λ (x : Walked). x .count) e)
+    go : Answer m k r → (r .keys ≡ replicate 16 0) × (r .count ≡ 0) × (r .lookups ≡ 0)
+    go (refusing n h e) = (ap (λ (x : Walked). x .keys) e, ap (λ (x : Walked). x .count) e, ap (λ (x : Walked). x .lookups) e)
     go (answering b l f e) = absurd (z (ap (λ (x : Walked). x .answer) e))
 
 module _ (m : State) (k : ℕ) (b : brokenOf m ≡ false) (l : k < m .made) (f : walkedFrom m k .fine ≡ true) where
@@ -58,7 +59,7 @@ module _ (m : State) (k : ℕ) (b : brokenOf m ≡ false) (l : k < m .made) (f :
   begun =
       let u : Unbroken m = unbroken m b in
       let low : k < 16 = omega (arith, u .made16) in
-      visited m u 16 k (view m (number k 0) .store + 1) unmet low low sound-unmet
+      visited m u 16 k (view m (number k 0) .store + 1) unmet low low sound-unmet (none-met k)
 
   -- what is reached from a key that is met is met
   onward : {j i : ℕ} → Reach m j i → IsMet (walkedFrom m k) j → IsMet (walkedFrom m k) i
@@ -68,7 +69,7 @@ module _ (m : State) (k : ℕ) (b : brokenOf m ≡ false) (l : k < m .made) (f :
   met-reached : (i : ℕ) → IsMet (walkedFrom m k) i → Reach m k i
   met-reached i h = ⊎-elim (λ n. not-both _ n (none-met i)) (λ n. n) (begun .after .from i h)
 
-  exactly : Exactly m k (record { answer = 0; keys = walkedFrom m k .keys; count = walkedFrom m k .count })
+  exactly : Exactly m k (record { answer = 0; keys = walkedFrom m k .keys; count = walkedFrom m k .count; lookups = walkedFrom m k .lookups })
   exactly = record {
     once = λ i r. begun .after .sound .listed i ∙ ap one (onward r (begun .this f));
     only = λ i h. by-test (getD (walkedFrom m k .met) i false) (λ e. met-reached i e)
@@ -88,3 +89,14 @@ keys-few m k r p = go (answer-of p)
     go : Answer m k r → r .count ≤ 16
     go (refusing n h e) = omega (arith, ap (λ (x : Walked). x .count) e)
     go (answering b l f e) = omega (arith, ap (λ (x : Walked). x .count) e, few (begun m k b l f .after .sound .tally))
+
+pub lookups-exactly : LookupsExactly
+unfolding walkedFrom
+lookups-exactly m k r p z = go (answer-of p)
+  where
+    go : Answer m k r → r .lookups ≡ 2 * r .count - 1
+    go (refusing n h e) = absurd (h (sym (ap (λ (x : Walked). x .answer) e) ∙ z))
+    go (answering b l f e) =
+        let low : k < 16 = omega (arith, unbroken m b .made16) in
+        let two : walkedFrom m k .lookups + 1 ≡ 2 * walkedFrom m k .count = visit-looked m 16 k (view m (number k 0) .store + 1) unmet low refl f in
+        omega (arith, ap (λ (x : Walked). x .lookups) e, ap (λ (x : Walked). x .count) e, two)

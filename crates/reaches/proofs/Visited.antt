@@ -3,7 +3,7 @@
 use Prim.Native.Nat.{ℕ, zero, suc, _+_, _-_, _/_, _≤_, _<_}
 use mathlib.Core.Path.{_≡_, refl, sym, ap, subst, _∙_}
 use mathlib.Core.Logic.{_⊎_, inl, inr, ⊎-elim}
-use mathlib.Core.Bool.{Bool, true, false, not, false≢true}
+use mathlib.Core.Bool.{Bool, true, false, not, _&&_, false≢true}
 use native.Mathlib.Omega.{arith}
 use native.Mathlib.Decide.{decLt}
 use lib.Dec.{eqb}
@@ -14,9 +14,9 @@ use Rattle.protocol.specs.Slots.{number, view, contents}
 use Rattle.protocol.specs.Closed.{closedOf}
 use Rattle.unbroken.specs.Unbroken.{Unbroken}
 use Rattle.protocol.specs.declared.State.{State}
-use Rattle.unbroken.proofs.Laws.Tests.{and-left, and-right, not-both}
+use Rattle.unbroken.proofs.Laws.Tests.{and-left, and-right}
 use Rattle.protocol.specs.declared.Met.{Met}
-use Rattle.protocol.specs.Walk.{added, spoiled, foundOf, causesHeld, hopOf, each, visitOf}
+use Rattle.protocol.specs.Walk.{added, spoiled, lookedUp, foundOf, causesHeld, hopOf, each, isDue, toCause, visitOf}
 use Rattle.reaches.proofs.Behind.{nothing-held}
 use Rattle.reaches.specs.Reaches.{Cause, Reach, here, by}
 use Rattle.reaches.proofs.Keys.{IsMet, Sound, Added, adds}
@@ -52,6 +52,26 @@ by-pick P false p q = q refl
 pub record Visited (m : State) (k : ℕ) (w w′ : Met) : Type 0 where
   pub after : After m (Reach m k) w w′
   pub this : w′ .fine ≡ true → IsMet w′ k
+
+-- a lookup meets nothing
+looked : {w : Met} → Sound w → Sound (lookedUp w)
+looked s = record { tally = record { long = s .tally .long; counted = s .tally .counted }; long = s .long; listed = s .listed }
+
+looking : {m : State} {k : ℕ} {w w′ : Met} → Visited m k (lookedUp w) w′ → Visited m k w w′
+looking v = record {
+  after = record { sound = v .after .sound; kept = v .after .kept; grows = v .after .grows; from = v .after .from; causes = v .after .causes };
+  this = v .this;
+}
+
+adds-looked : (k : ℕ) (w : Met) → Sound w → k < 16 → getD (w .met) k false ≡ false → Added k w (added (lookedUp w) k)
+adds-looked k w s d e =
+    let a : Added k (lookedUp w) (added (lookedUp w) k) = adds k (lookedUp w) (looked s) d e in
+    record { sound = a .sound; grows = a .grows; this = a .this; from = a .from }
+
+not-due : (a b : Bool) → a ≡ true → a && not b ≡ false → b ≡ true
+not-due true true f e = refl
+not-due true false f e = absurd (false≢true (sym e))
+not-due false b f e = absurd (false≢true f)
 
 record Swept (m : State) (Q : ℕ → Type 0) (s j n : ℕ) (w w′ : Met) : Type 0 where
   after : After m Q w w′
@@ -89,12 +109,19 @@ module _ (m : State) (u : Unbroken m) where
   below : (k c : ℕ) → k < 16 → Cause m k c → c < k
   below k c b h = let l : c < number k 0 / 2 = u .causeBelow (number k 0) c (omega arith) (h .low) (h .set) in omega arith
 
-  pub visited : (depth k link : ℕ) (w : Met) → k < depth → k < 16 → Sound w → Visited m k w (visitOf depth m k link w)
+  -- what the loop does with a cause: it is visited where it is due; else it is met, or something was missing before
+  module _ (top : ℕ) (g : ℕ → ℕ → Met → Met) (visits : (j link : ℕ) (w : Met) → j < top → Sound w → getD (w .met) j false ≡ false → Visited m j w (g j link w)) where
+    to-cause : (k link j : ℕ) (w : Met) → j < top → Sound w → Visited m j w (toCause g m k link j w)
+    to-cause k link j w b s =
+        by-pick (Visited m j w) (isDue w j)
+        (λ t. looking (visits j (hopOf m k link j) (lookedUp w) b (looked s) (not-true _ (and-right (w .fine) (not (getD (w .met) j false)) t))))
+        (λ t. record { after = after-none s; this = λ f. not-due (w .fine) (getD (w .met) j false) f t })
+
+  -- a visit of a key that isn't met
+  pub visited : (depth k link : ℕ) (w : Met) → k < depth → k < 16 → Sound w → getD (w .met) k false ≡ false → Visited m k w (visitOf depth m k link w)
   unfolding visitOf
-  visited zero k link w b d s = let z : ⊥ = omega arith in absurd z
-  visited (suc depth) k link w b d s =
-      let unfine : w .fine ≡ false → Visited m k w w = λ f. record { after = after-none s; this = λ t. not-both (w .fine) t f } in
-      let again : IsMet w k → Visited m k w w = λ h. record { after = after-none s; this = λ t. h } in
+  visited zero k link w b d s e = let z : ⊥ = omega arith in absurd z
+  visited (suc depth) k link w b d s e =
       let missing : Visited m k w (spoiled w) = record {
         after = record {
           sound = record { tally = record { long = s .tally .long; counted = s .tally .counted }; long = s .long; listed = s .listed };
@@ -106,11 +133,12 @@ module _ (m : State) (u : Unbroken m) where
         this = λ f. absurd (false≢true f);
       } in
       let set : ℕ = causesHeld m k link in
-      let onward : Met = each (λ j. visitOf depth m j (hopOf m k link j)) set k 0 (added w k) in
-      let new : getD (w .met) k false ≡ false → set ≡ view m (number k 0) .causes → Visited m k w onward = λ e q.
-      let a : Added k w (added w k) = adds k w s d e in
-      let r : Swept m (Reach m k) set 0 k (added w k) onward =
-      swept m k (λ j. visitOf depth m j (hopOf m k link j)) (λ j v l t. visited depth j (hopOf m k link j) v (omega arith) (omega arith) t) set (Reach m k) k 0 (added w k) (a .sound) (omega arith)
+      let cause : ℕ → Met → Met = toCause (visitOf depth m) m k link in
+      let onward : Met = each cause set k 0 (added (lookedUp w) k) in
+      let new : set ≡ view m (number k 0) .causes → Visited m k w onward = λ q.
+      let a : Added k w (added (lookedUp w) k) = adds-looked k w s d e in
+      let r : Swept m (Reach m k) set 0 k (added (lookedUp w) k) onward =
+      swept m k cause (to-cause k (visitOf depth m) (λ j hop v l t n. visited depth j hop v (omega arith) (omega arith) t n) k link) set (Reach m k) k 0 (added (lookedUp w) k) (a .sound) (omega arith)
       (λ c l h i t. by (record { low = omega arith; set = rw q at h }) t) in
       record {
         after = record {
@@ -125,6 +153,4 @@ module _ (m : State) (u : Unbroken m) where
         };
         this = λ f. r .after .grows k (a .this);
       } in
-      by-pick (Visited m k w) (not (w .fine)) (λ f. unfine (not-true (w .fine) f))
-      (λ f. by-pick (Visited m k w) (getD (w .met) k false) again
-      (λ e. by-pick (Visited m k w) (foundOf m k link) (λ t. new e (found-causes k link d t)) (λ t. missing)))
+      by-pick (Visited m k w) (foundOf m k link) (λ t. new (found-causes k link d t)) (λ t. missing)

@@ -28,13 +28,12 @@ unfoldable pub eachOf : (ℕ → List Lookup → List Lookup) → ℕ → ℕ �
 eachOf look causes zero j l = l
 eachOf look causes (suc n) j l = eachOf look causes n (j + 1) (pick (bit causes j) (look j l) l)
 
--- a key that wasn't met is looked up, then each of its causes as the store holds them: by the cause link to the receipt, by that
--- viewlink to the opposite sender record
+-- a sender record is looked up, then each of its causes that wasn't met, as the store holds them: by the cause link to the receipt,
+-- by that viewlink to the opposite sender record
 unfoldable pub looked : ℕ → State → ℕ → ℕ → List Lookup → List Lookup
 looked zero m k link l = l
 looked (suc depth) m k link l =
-    let onward = eachOf (λ j. looked depth m j (hopOf m k link j)) (causesHeld m k link) k 0 (l ++ (record { key = k; link = link } ∷ [])) in
-    pick (met l k) l onward
+    eachOf (λ j i. pick (met i j) i (looked depth m j (hopOf m k link j) i)) (causesHeld m k link) k 0 (l ++ (record { key = k; link = link } ∷ []))
 
 -- what the walk back from a key looks up, in the order first met
 abbrev pub lookups : State → ℕ → List Lookup

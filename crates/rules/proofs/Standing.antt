@@ -10,7 +10,7 @@ use borrow.Author.Tests.{leb-false}
 use lib.ListN.{getD, set}
 use lib.Seq.{set-getD, getD-set-other}
 use Rattle.protocol.specs.Words.{pick}
-use Rattle.protocol.specs.Slots.{number, place}
+use Rattle.protocol.specs.Slots.{number}
 use Rattle.protocol.specs.Setup.{answered}
 use Rattle.protocol.specs.declared.State.{State}
 use Rattle.protocol.specs.Outcome.{Outcome}
@@ -55,7 +55,3 @@ beside-view l v x d = beside l v (opposite v) x d (λ e. omega (arith, e))
 pub beside-key : {A : Type 0} (l : List A) (k r : ℕ) → r < 2 → (x d : A)
     → set (set l (number k r) x) (number k (1 - r)) (getD l (number k (1 - r)) d) ≡ set l (number k r) x
 beside-key l k r low x d = beside l (number k r) (number k (1 - r)) x d (λ e. omega (arith, e))
-
-pub beside-place : {A : Type 0} (l : List A) (p k r : ℕ) → r < 2 → (x d : A)
-    → set (set l (place p (number k r)) x) (place p (number k (1 - r))) (getD l (place p (number k (1 - r))) d) ≡ set l (place p (number k r)) x
-beside-place l p k r low x d = beside l (place p (number k r)) (place p (number k (1 - r))) x d (λ e. omega (arith, e))

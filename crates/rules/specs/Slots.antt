@@ -4,8 +4,9 @@ use mathlib.Core.Bool.{true, false}
 use mathlib.Core.Path.{_≡_}
 use lib.ListN.{getD, set}
 use Rattle.protocol.specs.Words.{pick, table}
-use Rattle.protocol.specs.Slots.{number, place, linksPlace, home, list, queue, message, view, repair, entry, isUp, recordCopies, ackCopies, updateCopies, uackCopies, contents, viewlink, noLinks}
-use Rattle.protocol.specs.Setup.{answered, blankView}
+use Rattle.protocol.specs.Slots.{number, place, linksPlace, home, list, queue, message, view, repair, entry, shelf, recordCopies, ackCopies, updateCopies, uackCopies, contents, noLinks}
+use Rattle.protocol.specs.Views.{blankView}
+use Rattle.protocol.specs.Setup.{answered}
 use Rattle.protocol.specs.declared.State.{State}
 use Rattle.protocol.specs.declared.View.{View}
 use Rattle.protocol.specs.Outcome.{Outcome}
@@ -51,15 +52,13 @@ slotsAt m b a v p past =
       entry = entry m v;
       facing = view m (opposite v);
       other = entry m (opposite v);
-      up = isUp m p;
+      shelf = shelf m p;
       records = recordCopies m p v;
       acks = ackCopies m p v;
       updates = updateCopies m p v;
       uacks = uackCopies m p v;
       contents = contents m p v;
       links = getD (m .links) (linksPlace p (v / 2)) noLinks;
-      viewlink = viewlink m p v;
-      across = viewlink m p (opposite v);
     }
 
 -- the machine with these slots written; the number made is written by a step that makes an interaction alone
@@ -72,7 +71,7 @@ withSlotsAt m b a v p x =
       homes = m .homes;
       lists = m .lists;
       queues = set (m .queues) a (x .queue);
-      up = set (m .up) p (x .up);
+      shelves = set (m .shelves) p (x .shelf);
       messages = set (m .messages) (v / 2) (x .message);
       views = set (set (m .views) v (x .view)) (opposite v) (x .facing);
       repairs = set (m .repairs) v (x .repair);
@@ -83,7 +82,6 @@ withSlotsAt m b a v p x =
       uacks = set (m .uacks) (place p v) (x .uacks);
       contents = set (m .contents) (place p v) (x .contents);
       links = set (m .links) (linksPlace p (v / 2)) (x .links);
-      viewlinks = set (set (m .viewlinks) (place p v) (x .viewlink)) (place p (opposite v)) (x .across);
     }
 
 -- the slots that a step is about

@@ -13,11 +13,13 @@ impl Slots {
     pub(crate) fn crash(self) -> Tried
         ensures { λ r. ⌜ ((m : State) (p : ℕ) → Stands m (Crash p) self → ruleOf m (Crash p) ≡ outcome m (Crash p) r) ⌝ }
     {
-        if !self.up {
+        let mut s = self.shelf;
+        if !s.up {
             return self.with(5);
         }
+        s.up = false;
         let mut x = self;
-        x.up = false;
+        x.shelf = s;
         Tried {
             answer: 0,
             slots: x,

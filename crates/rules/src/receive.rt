@@ -5,11 +5,11 @@ ghost use Rattle.protocol.specs.declared.State.{State};
 ghost use Rattle.rules.specs.Slots.{Stands, outcome};
 ghost use Rattle.protocol.specs.Step.{ruleOf};
 ghost use Rattle.protocol.specs.declared.Step.the-variants.{Receive};
-use crate::send::awaited_view;
 use crate::send::joined;
 use crate::slots::Slots;
 use crate::slots::Tried;
 use protocol::Message;
+use protocol::unset_view;
 
 impl Slots {
     // Not yet received. The receiver's record joins the queue, and the message is no longer in flight.
@@ -23,7 +23,7 @@ impl Slots {
         }
         let sent = self.message;
         let queue = joined(self.queue, self.number as u8);
-        let mut view = awaited_view(w.actor);
+        let mut view = unset_view(w.actor);
         view.phase = 1;
         view.store = self.home;
         view.viewlink = sent.own;

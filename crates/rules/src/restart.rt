@@ -13,11 +13,13 @@ impl Slots {
     pub(crate) fn restart(self) -> Tried
         ensures { λ r. ⌜ ((m : State) (p : ℕ) → Stands m (Restart p) self → ruleOf m (Restart p) ≡ outcome m (Restart p) r) ⌝ }
     {
-        if self.up {
+        let mut s = self.shelf;
+        if s.up {
             return self.with(6);
         }
+        s.up = true;
         let mut x = self;
-        x.up = true;
+        x.shelf = s;
         Tried {
             answer: 0,
             slots: x,

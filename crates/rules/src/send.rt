@@ -1,13 +1,14 @@
 // Step 1, send: from, to, own store, data, causes.
 ghost use Prim.Native.Nat.{_<_};
 ghost use lib.Dec.{eqb, ltb};
-ghost use mathlib.Core.Bool.{_&&_, _||_, false, not};
+ghost use mathlib.Core.Bool.{_&&_, _||_, not};
 ghost use mathlib.Core.Path.{_≡_};
 ghost use Rattle.protocol.specs.Setup.{emptyMachine};
+ghost use Rattle.protocol.specs.Views.{firstView};
 ghost use Rattle.protocol.specs.Words.{bit, table};
 ghost use Rattle.protocol.specs.Writes.{withMade, withViews};
 ghost use Rattle.protocol.specs.declared.State.{State};
-ghost use Rattle.protocol.specs.Send.{awaitedView, causesKnown, homeLink, joined};
+ghost use Rattle.protocol.specs.Send.{causesKnown, homeLink, joined};
 ghost use Rattle.rules.specs.Slots.{Stands, outcome};
 ghost use Rattle.protocol.specs.Step.{ruleOf};
 ghost use Rattle.protocol.specs.declared.Step.the-variants.{Send};
@@ -16,6 +17,7 @@ use crate::slots::Tried;
 use protocol::Message;
 use protocol::Queue;
 use protocol::View;
+use protocol::unset_view;
 
 impl Slots {
     // Own is in from's list; each cause is an interaction that from has received. The application message is in flight, and
@@ -44,7 +46,7 @@ impl Slots {
             word,
         };
         let sender = sent_view(from, own, self.far, word, causes, self.home);
-        let receiver = awaited_view(to);
+        let receiver = unset_view(to);
         let mut x = self;
         x.queue = queue;
         x.message = message;
@@ -60,36 +62,17 @@ impl Slots {
 
 // The sender's record: phase 1, store own, viewlink home of to, every cause link home of from.
 fn sent_view(from: u8, own: u8, far: u8, word: u32, causes: u16, home: u8) -> View
-    ensures { λ r. ⌜ r ≡ record { actor = from; phase = 1; store = own; viewlink = far; changed = false; causes = causes; word = word; links = table (homeLink causes home) 16 } ⌝ }
+    ensures { λ r. ⌜ r ≡ firstView from own far word causes (table (homeLink causes home) 16) ⌝ }
 {
     let links = home_links(causes, home);
-    View {
-        actor: from,
-        phase: 1,
-        store: own,
-        viewlink: far,
-        changed: false,
-        causes,
-        word,
-        links,
-    }
-}
-
-// Of the receiver's record just the actor is set.
-pub(crate) fn awaited_view(to: u8) -> View
-    ensures { λ r. ⌜ r ≡ awaitedView to ⌝ }
-{
-    let blank = [0u8; 16];
-    View {
-        actor: to,
-        phase: 0,
-        store: 0,
-        viewlink: 0,
-        changed: false,
-        causes: 0,
-        word: 0,
-        links: blank,
-    }
+    let mut w = unset_view(from);
+    w.phase = 1;
+    w.store = own;
+    w.viewlink = far;
+    w.causes = causes;
+    w.word = word;
+    w.links = links;
+    w
 }
 
 // Whether j, if it is a cause, is an interaction that the actor has received; w is its receiver's record.

@@ -13,6 +13,7 @@ use protocol::Message;
 use protocol::Queue;
 use protocol::Repair;
 use protocol::Step;
+use protocol::Store;
 use protocol::View;
 
 pub struct Slots {
@@ -26,7 +27,7 @@ pub struct Slots {
     pub past: Past,
     // How many interactions are made.
     pub made: u8,
-    // Of the actor, of the interaction, of the view, of the opposite view, of the store.
+    // Of the actor, of the interaction, of the view, of the opposite view; the store.
     pub queue: Queue,
     pub message: Message,
     pub view: View,
@@ -34,17 +35,15 @@ pub struct Slots {
     pub entry: Entry,
     pub facing: View,
     pub other: Entry,
-    pub up: bool,
+    pub shelf: Store,
     // Copies in flight at the store for the view.
     pub records: u8,
     pub acks: u8,
     pub updates: u8,
     pub uacks: u8,
-    // What the store holds for the view, and the opposite view's link there.
+    // What the store holds of the view's record.
     pub contents: Contents,
     pub links: Links,
-    pub viewlink: u8,
-    pub across: u8,
 }
 
 // The slots after a step, and its number.

@@ -8,7 +8,7 @@ ghost use mathlib.Core.Bool.{_&&_, not};
 ghost use lib.Dec.{eqb};
 ghost use lib.ListN.{getD};
 ghost use Rattle.protocol.specs.Words.{pick};
-ghost use Rattle.protocol.specs.Rule.{phased};
+ghost use Rattle.protocol.specs.Views.{phased};
 ghost use Rattle.protocol.specs.declared.Step.the-variants.{TakeAck};
 use crate::slots::Slots;
 use crate::slots::Tried;

@@ -16,10 +16,11 @@ use protocol::View;
 impl Slots {
     // Store up, a copy in flight. The copy goes; contents and viewlink are written only where none were. One ack copy.
     pub(crate) fn take_record(self) -> Tried
-        requires { ⌜ self .view .viewlink < 8 ⌝ }
+        requires { ⌜ (self .number < 32) × (self .view .viewlink < 8) ⌝ }
         ensures { λ r. ⌜ ((m : State) (p k role : ℕ) → Stands m (TakeRecord p k role) self → ruleOf m (TakeRecord p k role) ≡ outcome m (TakeRecord p k role) r) ⌝ }
     {
-        if !self.up {
+        let mut s = self.shelf;
+        if !s.up {
             return self.with(5);
         }
         if self.records == 0 {
@@ -27,17 +28,19 @@ impl Slots {
         }
         let w = self.view;
         let held = self.contents;
-        let role = (self.number % 2) as u8;
+        let v = self.number;
+        let role = (v % 2) as u8;
         let contents = written_contents(held, w);
         let links = written_links(role, held, w, self.links);
-        let viewlink = written_viewlink(self.viewlink, w);
+        let viewlink = written_viewlink(s.viewlinks[v], w);
         let acks = one_more(self.acks);
+        s.viewlinks[v] = viewlink;
         let mut x = self;
         x.records -= 1;
         x.acks = acks;
         x.contents = contents;
         x.links = links;
-        x.viewlink = viewlink;
+        x.shelf = s;
         Tried {
             answer: 0,
             slots: x,

@@ -12,21 +12,25 @@ use crate::slots::Tried;
 impl Slots {
     // Store up, a copy in flight. The copy goes; the opposite view's link there becomes the entry's own store. One uack copy.
     pub(crate) fn take_update(self) -> Tried
-        requires { ⌜ self .entry .own < 8 ⌝ }
+        requires { ⌜ (self .number < 32) × (self .entry .own < 8) ⌝ }
         ensures { λ r. ⌜ ((m : State) (p k role : ℕ) → Stands m (TakeUpdate p k role) self → ruleOf m (TakeUpdate p k role) ≡ outcome m (TakeUpdate p k role) r) ⌝ }
     {
-        if !self.up {
+        let mut s = self.shelf;
+        if !s.up {
             return self.with(5);
         }
         if self.updates == 0 {
             return self.with(7);
         }
         let e = self.entry;
+        let v = self.number;
+        let o = v / 2 * 2 + (1 - v % 2);
         let uacks = one_more(self.uacks);
+        s.viewlinks[o] = e.own + 1;
         let mut x = self;
         x.updates -= 1;
-        x.across = e.own + 1;
         x.uacks = uacks;
+        x.shelf = s;
         Tried {
             answer: 0,
             slots: x,

@@ -17,7 +17,7 @@ use Rattle.protocol.specs.declared.Ran.{Ran}
 use Rattle.protocol.specs.Book.{wellFormed, setupRead, startOf, countOf, validFrom}
 use Rattle.protocol.specs.Run.{answers, stepsRead, legalSetup, freshOf, bookNo, refusedRun, fullRun, runOf, filled, bufferOf}
 use Rattle.reads.proofs.Formed.{Accepted, accepted, count-steps, answers-length}
-use Rattle.tautlichen.specs.Lent.{first, over}
+use Rattle.protocol.specs.Lent.{first, over}
 use Rattle.tautlichen.specs.Calls.{history}
 
 steps-few : (s : List ℕ) → wellFormed s ≡ true → length (stepsRead s) ≤ 4096

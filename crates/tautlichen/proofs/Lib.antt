@@ -1,4 +1,3 @@
-pub mod Copying
 pub mod Showing
 pub mod History
 pub mod Listed

@@ -8,7 +8,7 @@ use borrow.Author.Tests.{ne-eqb}
 use Rattle.protocol.specs.Words.{pick}
 use Rattle.protocol.specs.declared.Ran.{Ran}
 use Rattle.protocol.specs.Run.{runOf, bufferOf}
-use Rattle.tautlichen.specs.Lent.{first, shortNo, over}
+use Rattle.protocol.specs.Lent.{first, shortNo, over}
 use Rattle.tautlichen.specs.Calls.{ranListing, listText, listNo, history}
 use Rattle.tautlichen.proofs.History.{run-number, same-run, steps-fit, same-answers}
 

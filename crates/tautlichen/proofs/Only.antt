@@ -1,7 +1,7 @@
 -- Each promise has one result: two numbers that equal the same are equal, and then what is written by them is too. Assumes nothing.
 use Prim.Native.Nat.{ℕ}
 use mathlib.Core.Path.{_≡_, sym, ap, _∙_}
-use Rattle.tautlichen.specs.Lent.{lent}
+use Rattle.protocol.specs.Lent.{lent}
 use Rattle.tautlichen.specs.Only.{Determined, EveryExport}
 
 determined : {A : Type 0} (number : ℕ) (written was : A) → Determined number written was
@@ -21,5 +21,8 @@ every-export =
       drain-count = λ book text count. determined _ _ _;
       walk-keys = λ book key keys. determined _ _ _;
       walk-count = λ book key keys count. determined _ _ _;
+      walk-lookups = λ book key keys lookups. determined _ _ _;
+      lineage-text = λ book key text. determined _ _ _;
+      lineage-len = λ book key text len. determined _ _ _;
       pair-passes = λ book rule key passes. determined _ _ _;
     }

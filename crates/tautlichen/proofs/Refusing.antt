@@ -1,8 +1,9 @@
--- The ends of the drain and of the walk after a book: which of three refusals is given, and what is written where there is none.
+-- The ends of the drain, of the walk and of its document after a book: which of three refusals is given, and what is written where there is none.
 -- Assumes nothing.
 use Prim.Native.Nat.{ℕ}
 use mathlib.Core.Path.{_≡_, sym, ap, _∙_}
 use mathlib.Core.List.{List}
+use lib.ListN.{length}
 use borrow.Author.Tests.{ne-eqb}
 use Rattle.protocol.specs.declared.Ran.{Ran}
 use Rattle.protocol.specs.declared.Drained.{Drained}
@@ -11,8 +12,10 @@ use Rattle.protocol.specs.declared.Walked.{Walked}
 use Rattle.protocol.specs.Walk.{walkOf}
 use Rattle.reaches.specs.Reaches.{keysOf}
 use Rattle.protocol.specs.Listing.{listingOf}
-use Rattle.tautlichen.specs.Lent.{first, shortNo}
-use Rattle.tautlichen.specs.Calls.{history, drainAfter, drainText, drainNo, walkAfter, walkNo}
+use Rattle.protocol.specs.declared.Written.{Written}
+use Rattle.protocol.specs.Provn.{provnNo, provnOf, provnBuffer}
+use Rattle.protocol.specs.Lent.{first, lent, shortNo, over}
+use Rattle.tautlichen.specs.Calls.{history, drainAfter, drainText, drainNo, walkAfter, walkNo, lineageText, lineageNo}
 
 second-of : {n a b : ℕ} (c : ℕ) → a ≡ 0 → n ≡ b → (n ≡ 0 → ⊥) → n ≡ first a (first b c)
 second-of {n} c z e h = rw (z, ← e) (simp (ne-eqb n 0 h))
@@ -31,6 +34,10 @@ module _ {s : List ℕ} {r : Ran} (p : Past s r) where
   pub drain-unrun : (text : List ℕ) → (r .answer ≡ 0 → ⊥) → r .answer ≡ drainNo s text
   unfolding drainNo
   drain-unrun text h = rw (← p .run) (simp (ne-eqb (r .answer) 0 h))
+
+  pub lineage-unrun : (key : ℕ) (text : List ℕ) → (r .answer ≡ 0 → ⊥) → r .answer ≡ lineageNo s key text
+  unfolding lineageNo
+  lineage-unrun key text h = rw (← p .run) (simp (ne-eqb (r .answer) 0 h))
 
   pub walk-unrun : (key : ℕ) (keys : List ℕ) → (r .answer ≡ 0 → ⊥) → r .answer ≡ walkNo s key keys
   unfolding walkNo
@@ -72,3 +79,23 @@ module _ {s : List ℕ} {key : ℕ} {r : Ran} {w : Walked} (p : Walks s key r w)
   pub walk-shown : (keys : List ℕ) {n : ℕ} → r .answer ≡ 0 → w .answer ≡ 0 → n ≡ shortNo (keysOf w) keys → n ≡ walkNo s key keys
   unfolding walkNo
   walk-shown keys z y q = third-of (sym (number (p .past)) ∙ z) (sym (ap (λ (x : Walked). x .answer) walked) ∙ y) (rw walked at q)
+
+-- and the document of a key after it
+pub record Lays (s : List ℕ) (key : ℕ) (text : List ℕ) (r : Ran) (w : Written) (out : List ℕ) : Type 0 where
+  pub past : Past s r
+  pub result : w ≡ provnOf (r .state) key text
+  pub buffer : out ≡ provnBuffer (r .state) key text
+
+module _ {s : List ℕ} {key : ℕ} {text : List ℕ} {r : Ran} {w : Written} {out : List ℕ} (p : Lays s key text r w out) where
+  answer : w .answer ≡ provnNo (r .state) key text
+  answer = ap (λ (x : Written). x .answer) (p .result)
+
+  pub lineage-told : r .answer ≡ 0 → w .answer ≡ lineageNo s key text
+  unfolding lineageNo
+  lineage-told z = rw (← p .past .run) (rw z answer)
+
+  pub lineage-text : out ≡ lent (w .answer) (over (lineageText s key) text) text
+  lineage-text = rw (← p .past .run) (rw answer (p .buffer))
+
+  pub lineage-long : w .answer ≡ 0 → w .len ≡ length (lineageText s key)
+  lineage-long z = rw (← p .past .run) (ap (λ (x : Written). x .len) (p .result) ∙ rw (sym answer ∙ z))

@@ -11,7 +11,8 @@ use Rattle.protocol.specs.declared.Walked.{Walked}
 use Rattle.protocol.specs.Walk.{walkOf}
 use Rattle.reaches.specs.Reaches.{keysOf}
 use Rattle.protocol.specs.Listing.{listingOf}
-use Rattle.tautlichen.specs.Lent.{first, shortNo}
+use Rattle.protocol.specs.Provn.{provnText, provnNo}
+use Rattle.protocol.specs.Lent.{first, shortNo}
 use Rattle.protocol.specs.Words.{pick}
 use Rattle.pairing.specs.declared.Checked.{Checked}
 use Rattle.pairing.specs.Pair.{isRule, checkOf}
@@ -47,6 +48,13 @@ walkAfter book key = walkOf (history book .state) key
 
 unfoldable pub walkNo : List ℕ → ℕ → List ℕ → ℕ
 walkNo book key keys = first (history book .answer) (first (walkAfter book key .answer) (shortNo (keysOf (walkAfter book key)) keys))
+
+-- The walk of a key after a book as a PROV-N document: the run's refusals, the walk's, then 14.
+abbrev pub lineageText : List ℕ → ℕ → List ℕ
+lineageText book key = provnText (history book .state) key
+
+unfoldable pub lineageNo : List ℕ → ℕ → List ℕ → ℕ
+lineageNo book key text = first (history book .answer) (provnNo (history book .state) key text)
 
 -- The pair rule of a key after a book: 19 for another rule, then the run's refusals, then the check's.
 abbrev pub pairAfter : List ℕ → ℕ → ℕ → Checked

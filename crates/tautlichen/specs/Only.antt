@@ -5,8 +5,8 @@ use mathlib.Core.List.{List}
 use lib.ListN.{length}
 use Rattle.protocol.specs.Run.{runOf, bufferOf}
 use Rattle.reaches.specs.Reaches.{keysOf}
-use Rattle.tautlichen.specs.Lent.{lent, over}
-use Rattle.tautlichen.specs.Calls.{listText, listNo, drainAfter, drainText, drainNo, walkAfter, walkNo, pairAfter, pairNo}
+use Rattle.protocol.specs.Lent.{lent, over}
+use Rattle.tautlichen.specs.Calls.{listText, listNo, drainAfter, drainText, drainNo, walkAfter, walkNo, lineageText, lineageNo, pairAfter, pairNo}
 use Rattle.protocol.specs.Words.{one}
 
 -- of two results with their numbers, where such is the number and such is written
@@ -26,4 +26,7 @@ pub record EveryExport : Type 0 where
   pub drain-count : (book text : List ℕ) (count : ℕ) → Determined (drainNo book text) (drainAfter book .count) count
   pub walk-keys : (book : List ℕ) (key : ℕ) (keys : List ℕ) → Determined (walkNo book key keys) (over (keysOf (walkAfter book key)) keys) keys
   pub walk-count : (book : List ℕ) (key : ℕ) (keys : List ℕ) (count : ℕ) → Determined (walkNo book key keys) (walkAfter book key .count) count
+  pub walk-lookups : (book : List ℕ) (key : ℕ) (keys : List ℕ) (lookups : ℕ) → Determined (walkNo book key keys) (walkAfter book key .lookups) lookups
+  pub lineage-text : (book : List ℕ) (key : ℕ) (text : List ℕ) → Determined (lineageNo book key text) (over (lineageText book key) text) text
+  pub lineage-len : (book : List ℕ) (key : ℕ) (text : List ℕ) (len : ℕ) → Determined (lineageNo book key text) (length (lineageText book key)) len
   pub pair-passes : (book : List ℕ) (rule key passes : ℕ) → Determined (pairNo book rule key) (one (pairAfter book rule key .passes)) passes

@@ -3,40 +3,15 @@
 use protocol::Ran;
 use protocol::State;
 ghost use mathlib.Core.Path.{_≡_};
-ghost use Prim.Native.Nat.{_≤_};
-ghost use lib.ListN.{length, take};
+ghost use lib.ListN.{length};
 ghost use lib.Dec.{ltb};
-ghost use Rattle.protocol.specs.Words.{pick};
+ghost use Rattle.protocol.specs.Words.{one, pick};
 ghost use Rattle.protocol.specs.Run.{runOf, bufferOf};
 ghost use Rattle.reaches.specs.Reaches.{keysOf};
 ghost use Rattle.protocol.specs.Listing.{listingOf};
-ghost use Rattle.tautlichen.specs.Lent.{first, lent, shortNo, over};
-ghost use Rattle.tautlichen.specs.Calls.{listText, listNo, history, drainAfter, drainText, drainNo, walkAfter, walkNo};
-
-// The first n bytes of a slice go to the start of a lent buffer.
-fn copy(to: &mut [u8], from: &[u8], n: usize)
-    requires { ⌜ (n ≤ length (now from)) × (n ≤ length (now to)) ⌝ }
-    ensures { λ r. ⌜ now (to .exit) ≡ over (take n (now (from .entry))) (now (to .entry)) ⌝ }
-{
-    let mut i: usize = 0;
-    while i < n {
-        to[i] = from[i];
-        i += 1;
-    }
-}
-
-// The same, and 14 where the buffer is too short.
-fn put(to: &mut [u8], from: &[u8], n: usize) -> u8
-    requires { ⌜ n ≤ length (now from) ⌝ }
-    ensures number { λ r. ⌜ r ≡ shortNo (take n (now (from .entry))) (now (to .entry)) ⌝ }
-    ensures bytes { λ r. ⌜ now (to .exit) ≡ lent r (over (take n (now (from .entry))) (now (to .entry))) (now (to .entry)) ⌝ }
-{
-    if to.len() < n {
-        return 14;
-    }
-    copy(to, from, n);
-    0
-}
+ghost use Rattle.protocol.specs.Lent.{first, lent, shortNo, over};
+ghost use Rattle.tautlichen.specs.Calls.{listText, listNo, history, drainAfter, drainText, drainNo, walkAfter, walkNo, lineageText, lineageNo, pairAfter, pairNo};
+ghost use Rattle.pairing.specs.Pair.{checkOf};
 
 // Writes the listing of a machine after so many steps, of which so many were taken, and its length.
 fn show(m: State, steps: u16, taken: u16, text: &mut [u8], len: &mut u16) -> u8
@@ -47,7 +22,7 @@ fn show(m: State, steps: u16, taken: u16, text: &mut [u8], len: &mut u16) -> u8
     let listed = listing::listing(m, steps, taken);
     let bytes = listed.bytes;
     let n = listed.len;
-    let no = put(text, &bytes, n);
+    let no = lending::put(text, &bytes, n);
     if no != 0 {
         return no;
     }
@@ -111,7 +86,7 @@ pub extern "C" fn tautlichen_list(
     if no != 0 {
         return no;
     }
-    copy(answers, &numbers, ran.steps as usize);
+    lending::copy(answers, &numbers, ran.steps as usize);
     0
 }
 
@@ -149,10 +124,17 @@ pub extern "C" fn tautlichen_drain(
 
 // Walks back from a key in the machine after a book: the keys met, and how many. Refused with 10, 11, then 2, 13, then 14.
 #[no_mangle]
-pub extern "C" fn tautlichen_walk(book: &[u8], key: u8, keys: &mut [u8], count: &mut u8) -> u8
+pub extern "C" fn tautlichen_walk(
+    book: &[u8],
+    key: u8,
+    keys: &mut [u8],
+    count: &mut u8,
+    lookups: &mut u8,
+) -> u8
     ensures number { λ r. ⌜ r ≡ walkNo (now (book .entry)) key (now (keys .entry)) ⌝ }
     ensures keys { λ r. ⌜ now (keys .exit) ≡ lent r (over (keysOf (walkAfter (now (book .entry)) key)) (now (keys .entry))) (now (keys .entry)) ⌝ }
     ensures count { λ r. ⌜ now (count .exit) ≡ lent r (walkAfter (now (book .entry)) key .count) (now (count .entry)) ⌝ }
+    ensures lookups { λ r. ⌜ now (lookups .exit) ≡ lent r (walkAfter (now (book .entry)) key .lookups) (now (lookups .entry)) ⌝ }
 {
     let ran = after(book);
     if ran.answer != 0 {
@@ -164,18 +146,37 @@ pub extern "C" fn tautlichen_walk(book: &[u8], key: u8, keys: &mut [u8], count: 
         return walked.answer;
     }
     let met = walked.keys;
-    let no = put(keys, &met, walked.count as usize);
+    let no = lending::put(keys, &met, walked.count as usize);
     if no != 0 {
         return no;
     }
     *count = walked.count;
+    *lookups = walked.lookups;
+    0
+}
+
+// Writes the walk of a key in the machine after a book as a PROV-N document, and its length. Refused with 10, 11, then 2, 13,
+// then 14.
+#[no_mangle]
+pub extern "C" fn tautlichen_lineage(book: &[u8], key: u8, text: &mut [u8], len: &mut u16) -> u8
+    ensures number { λ r. ⌜ r ≡ lineageNo (now (book .entry)) key (now (text .entry)) ⌝ }
+    ensures text { λ r. ⌜ now (text .exit) ≡ lent r (over (lineageText (now (book .entry)) key) (now (text .entry))) (now (text .entry)) ⌝ }
+    ensures len { λ r. ⌜ now (len .exit) ≡ lent r (length (lineageText (now (book .entry)) key)) (now (len .entry)) ⌝ }
+{
+    let ran = after(book);
+    if ran.answer != 0 {
+        return ran.answer;
+    }
+    let m = ran.state;
+    let written = provn::write(m, key, text);
+    if written.answer != 0 {
+        return written.answer;
+    }
+    *len = written.len;
     0
 }
 
 // The pair rule.
-ghost use Rattle.protocol.specs.Words.{one};
-ghost use Rattle.pairing.specs.Pair.{checkOf};
-ghost use Rattle.tautlichen.specs.Calls.{pairAfter, pairNo};
 
 fn flag(b: bool) -> u8
     ensures { λ r. ⌜ r ≡ one b ⌝ }

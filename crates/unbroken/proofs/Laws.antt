@@ -18,4 +18,4 @@ pub use Whole.{slots, slots-whole}
 pub use Unbroken.{unbroken, whole, of-slots, to-slots}
 pub use Room.{bounds}
 pub use Fresh.{fresh-unbroken, empty-unbroken, fresh-blank, empty-blank, fresh-setup}
-pub use Only.{only, only-broken, only-setup, only-empty, only-status}
+pub use Only.{only}

@@ -1,4 +1,6 @@
 pub mod Fill
 pub mod Laws
 pub mod Pass
+pub mod Shelves
 pub mod Tests
+pub mod Writers

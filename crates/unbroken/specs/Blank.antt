@@ -6,7 +6,8 @@ use lib.Dec.{ltb}
 use lib.ListN.{replicate}
 use Rattle.protocol.specs.Slots.{noMessage, noRepair, noEntry, noContents, isUp, queue, message, view, repair, entry}
 use Rattle.protocol.specs.Slots.{recordCopies, ackCopies, updateCopies, uackCopies, contents, causeLinks, viewlink}
-use Rattle.protocol.specs.Setup.{blankView, blankQueue, emptyMachine}
+use Rattle.protocol.specs.Views.{blankView}
+use Rattle.protocol.specs.Setup.{blankQueue, emptyMachine}
 use Rattle.protocol.specs.Broken.{brokenOf}
 use Rattle.protocol.specs.declared.State.{State}
 

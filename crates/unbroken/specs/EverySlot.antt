@@ -6,8 +6,9 @@ use mathlib.Core.Bool.{Bool, true, false}
 use mathlib.Core.List.{List}
 use lib.ListN.{length, getD}
 use Rattle.protocol.specs.Words.{bit, times}
-use Rattle.protocol.specs.Slots.{number, noView, statusNumber, home, list, isUp, queue, standing, message, view, repair, entry}
-use Rattle.protocol.specs.Slots.{recordCopies, ackCopies, updateCopies, uackCopies, contents, causeLinks, viewlink}
+use Rattle.protocol.specs.Slots.{number, noView, statusNumber, home, list, shelf, queue, standing, message, view, repair, entry}
+use Rattle.protocol.specs.Slots.{recordCopies, ackCopies, updateCopies, uackCopies, contents, causeLinks}
+use Rattle.protocol.specs.Views.{unsetView, relinked}
 use Rattle.protocol.specs.Setup.{storesIn}
 use Rattle.protocol.specs.declared.State.{State}
 use Rattle.protocol.specs.declared.View.{View}
@@ -16,13 +17,14 @@ use Rattle.protocol.specs.declared.Contents.{Contents}
 use Rattle.protocol.specs.declared.Message.{Message}
 use Rattle.protocol.specs.declared.Repair.{Repair}
 use Rattle.protocol.specs.declared.Entry.{Entry}
+use Rattle.protocol.specs.declared.Store.{Store}
 
 -- every slot is there
 pub record Sized (m : State) : Type 0 where
   pub homes : length (m .homes) ≡ 8
   pub lists : length (m .lists) ≡ 8
   pub queues : length (m .queues) ≡ 8
-  pub up : length (m .up) ≡ 8
+  pub shelves : length (m .shelves) ≡ 8
   pub messages : length (m .messages) ≡ 16
   pub views : length (m .views) ≡ 32
   pub repairs : length (m .repairs) ≡ 32
@@ -33,7 +35,6 @@ pub record Sized (m : State) : Type 0 where
   pub uacks : length (m .uacks) ≡ 256
   pub contents : length (m .contents) ≡ 256
   pub links : length (m .links) ≡ 128
-  pub viewlinks : length (m .viewlinks) ≡ 256
 
 -- a home and the bits of a list name stores, the home is in its list, and the list has two stores or more
 pub record LegalActor (stores home list : ℕ) : Type 0 where
@@ -55,6 +56,10 @@ pub data SetupKind (stores actors : ℕ) (homes lists : List ℕ) : Type 0 where
   none : stores ≡ 0 → actors ≡ 0 → SetupKind stores actors homes lists
   some : LegalSetup stores actors homes lists → SetupKind stores actors homes lists
 
+-- just the actor is set (the links are blank where no causes are)
+abbrev pub Unset : View → Type 0
+Unset w = w ≡ relinked (w .links) (unsetView (w .actor))
+
 -- the view v; `sender` is the actor of the view before it, which is the sender's where v is a receiver's
 pub record ViewSlot (stores actors made sender v : ℕ) (w : View) : Type 0 where
   pub linksLong : length (w .links) ≡ 16
@@ -63,11 +68,7 @@ pub record ViewSlot (stores actors made sender v : ℕ) (w : View) : Type 0 wher
   pub linkBlank : (j : ℕ) → j < 16 → bit (w .causes) j ≡ false → getD (w .links) j 0 ≡ 0
   pub storeIn : 1 ≤ w .phase → w .store < stores
   pub viewlinkIn : 1 ≤ w .phase → w .viewlink < stores
-  pub storeUnset : w .phase ≡ 0 → w .store ≡ 0
-  pub viewlinkUnset : w .phase ≡ 0 → w .viewlink ≡ 0
-  pub changedUnset : w .phase ≡ 0 → w .changed ≡ false
-  pub causesUnset : w .phase ≡ 0 → w .causes ≡ 0
-  pub wordUnset : w .phase ≡ 0 → w .word ≡ 0
+  pub unset : w .phase ≡ 0 → Unset w
   pub actorIn : v < made * 2 → w .actor < actors
   pub phase5 : v < made * 2 → w .phase ≤ 5
   pub senderMade : v < made * 2 → v % 2 ≡ 0 → 1 ≤ w .phase
@@ -140,13 +141,18 @@ pub record ViewlinkSlot (stores made p v l : ℕ) : Type 0 where
   pub atStore : 1 ≤ l → p < stores
   pub atView : 1 ≤ l → v < made * 2
 
+-- the store p: down where it isn't there; its viewlinks, by view
+pub record StoreSlot (stores made p : ℕ) (s : Store) : Type 0 where
+  pub upBlank : stores ≤ p → s .up ≡ false
+  pub long : length (s .viewlinks) ≡ 32
+  pub linkAt : (v : ℕ) → v < 32 → ViewlinkSlot stores made p v (getD (s .viewlinks) v 0)
+
 pub record EverySlot (m : State) : Type 0 where
   pub sized : Sized m
   pub made16 : m .made ≤ 16
   pub setup : SetupKind (m .stores) (m .actors) (m .homes) (m .lists)
   pub homeBlank : (a : ℕ) → a < 8 → m .actors ≤ a → home m a ≡ 0
   pub listBlank : (a : ℕ) → a < 8 → m .actors ≤ a → list m a ≡ 0
-  pub upBlank : (p : ℕ) → p < 8 → m .stores ≤ p → isUp m p ≡ false
   pub viewAt : (v : ℕ) → v < 32 → ViewSlot (m .stores) (m .actors) (m .made) (view m (v - 1) .actor) v (view m v)
   pub onceAt : (v : ℕ) → v < 32 → 1 ≤ view m v .phase → view m v .phase ≤ 4 → times v (standing (queue m (view m v .actor))) ≡ 1
   pub queueAt : (a : ℕ) → a < 8 → QueueSlot (m .actors) (m .views) a (queue m a)
@@ -159,4 +165,4 @@ pub record EverySlot (m : State) : Type 0 where
   pub uackAt : (p v : ℕ) → p < 8 → v < 32 → CopySlot (m .stores) p 1 (statusNumber (entry m v .status)) (uackCopies m p v)
   pub contentsAt : (p v : ℕ) → p < 8 → v < 32 → ContentsSlot (m .stores) p (view m v) (contents m p v)
   pub linksAt : (p k : ℕ) → p < 8 → k < 16 → LinksSlot (contents m p (number k 0) .held) (view m (number k 0) .links) (causeLinks m p k)
-  pub viewlinkAt : (p v : ℕ) → p < 8 → v < 32 → ViewlinkSlot (m .stores) (m .made) p v (viewlink m p v)
+  pub storeAt : (p : ℕ) → p < 8 → StoreSlot (m .stores) (m .made) p (shelf m p)

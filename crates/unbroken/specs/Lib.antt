@@ -4,3 +4,4 @@ pub mod Unbroken
 pub mod Bounds
 pub mod Lowest
 pub mod Applies
+pub mod Writer

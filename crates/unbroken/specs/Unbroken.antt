@@ -5,9 +5,9 @@ use mathlib.Core.Logic.{_≢_}
 use mathlib.Core.Bool.{true, false}
 use lib.ListN.{length, getD}
 use Rattle.protocol.specs.Words.{bit, times}
-use Rattle.protocol.specs.Slots.{number, statusNumber, home, list, isUp, queue, standing, message, view, repair, entry}
+use Rattle.protocol.specs.Slots.{number, statusNumber, home, list, shelf, isUp, queue, standing, message, view, repair, entry}
 use Rattle.protocol.specs.Slots.{recordCopies, ackCopies, updateCopies, uackCopies, contents, causeLinks, viewlink}
-use Rattle.unbroken.specs.EverySlot.{Sized, SetupKind}
+use Rattle.unbroken.specs.EverySlot.{Sized, SetupKind, Unset}
 use Rattle.protocol.specs.declared.State.{State}
 
 pub record Unbroken (m : State) : Type 0 where
@@ -16,6 +16,7 @@ pub record Unbroken (m : State) : Type 0 where
   pub queueLong : (a : ℕ) → a < 8 → length (queue m a .views) ≡ 16
   pub linksLong : (v : ℕ) → v < 32 → length (view m v .links) ≡ 16
   pub heldLong : (p k : ℕ) → p < 8 → k < 16 → length (causeLinks m p k) ≡ 16
+  pub viewlinksLong : (p : ℕ) → p < 8 → length (shelf m p .viewlinks) ≡ 32
   -- a number is outside what is said above
   pub made16 : m .made ≤ 16
   pub actorIn : (v : ℕ) → v < m .made * 2 → view m v .actor < m .actors
@@ -28,11 +29,7 @@ pub record Unbroken (m : State) : Type 0 where
   -- .. phase 0 is for receivers only, and there just the actor is set; a receiver has no causes
   pub senderMade : (k : ℕ) → k < m .made → 1 ≤ view m (number k 0) .phase
   pub receiverCauses : (k : ℕ) → k < m .made → view m (number k 1) .causes ≡ 0
-  pub storeUnset : (v : ℕ) → v < 32 → view m v .phase ≡ 0 → view m v .store ≡ 0
-  pub viewlinkUnset : (v : ℕ) → v < 32 → view m v .phase ≡ 0 → view m v .viewlink ≡ 0
-  pub changedUnset : (v : ℕ) → v < 32 → view m v .phase ≡ 0 → view m v .changed ≡ false
-  pub causesUnset : (v : ℕ) → v < 32 → view m v .phase ≡ 0 → view m v .causes ≡ 0
-  pub wordUnset : (v : ℕ) → v < 32 → view m v .phase ≡ 0 → view m v .word ≡ 0
+  pub viewUnset : (v : ℕ) → v < 32 → view m v .phase ≡ 0 → Unset (view m v)
   -- its setup is illegal (the empty machine's aside)
   pub setup : SetupKind (m .stores) (m .actors) (m .homes) (m .lists)
   -- an unused slot isn't blank: behind the last actor, the last store, the last interaction, the end of a queue

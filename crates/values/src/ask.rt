@@ -69,7 +69,8 @@ fn place(m: State, at: usize)
     print::small(m.acks[at]);
     print::small(m.updates[at]);
     print::small(m.uacks[at]);
-    print::small(m.viewlinks[at]);
+    let s = m.shelves[at / 32];
+    print::small(s.viewlinks[at % 32]);
 }
 
 fn looked(m: State, n: [u8; 64], letter: u8) {

@@ -66,7 +66,9 @@ fn counts(mut m: State, n: [u8; 64]) -> State {
 // U store up.
 fn up(mut m: State, n: [u8; 64]) -> State {
     let p = n[1] as usize % 8;
-    m.up[p] = n[2] == 1;
+    let mut s = m.shelves[p];
+    s.up = n[2] == 1;
+    m.shelves[p] = s;
     m
 }
 
@@ -178,7 +180,11 @@ fn cause_link(mut m: State, n: [u8; 64]) -> State {
 // L store key role link: 0 for none and p + 1 for store p.
 fn viewlink(mut m: State, n: [u8; 64]) -> State {
     let at = place_at(n[1], n[2], n[3]);
-    m.viewlinks[at] = n[4];
+    let p = at / 32;
+    let v = at % 32;
+    let mut s = m.shelves[p];
+    s.viewlinks[v] = n[4];
+    m.shelves[p] = s;
     m
 }
 

@@ -1,5 +1,5 @@
 -- What the walk takes from a machine says what the machine says: each read of the arrays is a read of the machine. Assumes nothing.
-use Prim.Native.Nat.{ℕ, _+_, _*_, _-_, _≤_, _<_}
+use Prim.Native.Nat.{ℕ, _+_, _*_, _-_, _/_, _%_, _≤_, _<_}
 use mathlib.Core.Path.{_≡_, refl, ap, _∙_}
 use mathlib.Core.Bool.{Bool, false}
 use mathlib.Core.List.{List}
@@ -8,29 +8,29 @@ use native.Mathlib.Decide.{decLt}
 use lib.ListN.{length, getD}
 use borrow.Author.Tests.{le-leb, lt-leb, ne-eqb}
 use Rattle.protocol.specs.Words.{table}
-use Rattle.protocol.specs.Slots.{number, place, linksPlace}
+use Rattle.protocol.specs.Slots.{number, place, linksPlace, noStore, viewlink}
 use Rattle.protocol.specs.Closed.{closedOf}
 use Rattle.protocol.specs.declared.State.{State}
 use Rattle.unbroken.proofs.Laws.Every.{table-at}
 use Rattle.reaches.proofs.Behind.{nothing-held}
 use Rattle.protocol.specs.Walk.{foundOf, causesHeld, receiptOf, hopOf}
-use Rattle.walk.specs.Past.{closedIn, heldIn, causesIn, LaidOut, Past, foundIn, receiptIn, hopIn}
+use Rattle.walk.specs.Past.{closedIn, heldIn, causesIn, viewlinkIn, LaidOut, Past, foundIn, receiptIn, hopIn}
 
 closed-same : (m : State) (k : ℕ) → closedIn (m .views) (m .repairs) (m .entries) k ≡ closedOf m k
 unfolding closedOf
 closed-same m k = refl
 
-pub taken : (m : State) → length (m .contents) ≡ 256 → {closed held : List Bool} {causes links : List ℕ}
+pub taken : (m : State) → length (m .contents) ≡ 256 → {closed held : List Bool} {causes links viewlinks : List ℕ}
     → closed ≡ table (closedIn (m .views) (m .repairs) (m .entries)) 16 → held ≡ table (heldIn (m .contents)) 256 → causes ≡ table (causesIn (m .contents)) 256
-    → LaidOut 128 (m .links) links → Past m closed held causes links (m .viewlinks)
-taken m long {closed} {held} {causes} {links} c h s l =
+    → LaidOut 128 (m .links) links → viewlinks ≡ table (viewlinkIn (m .shelves)) 256 → Past m closed held causes links viewlinks
+taken m long {closed} {held} {causes} {links} {viewlinks} c h s l v =
     record {
       long = long;
       closedAt = λ k b. rw c (table-at (closedIn (m .views) (m .repairs) (m .entries)) 16 false k b ∙ closed-same m k);
       heldAt = λ i b. rw h (table-at (heldIn (m .contents)) 256 false i b);
       causesAt = λ i b. rw s (table-at (causesIn (m .contents)) 256 0 i b);
       linksAt = l;
-      viewlinksAt = refl;
+      viewlinksAt = λ i b. rw v (table-at (viewlinkIn (m .shelves)) 256 0 i b);
     }
 
 module _ {m : State} {closed held : List Bool} {causes links viewlinks : List ℕ} (past : Past m closed held causes links viewlinks) where
@@ -42,11 +42,17 @@ module _ {m : State} {closed held : List Bool} {causes links viewlinks : List �
         | no q ↦ simp (le-leb link 8 (omega arith), past .heldAt (place (link - 1) (number k 0)) (omega arith), past .closedAt k b)
       ]
 
+  link-same : (p v : ℕ) → p < 8 → v < 32 → getD viewlinks (place p v) 0 ≡ viewlink m p v
+  link-same p v hp hv =
+      let d : place p v / 32 ≡ p = omega arith in
+      let e : place p v % 32 ≡ v = omega arith in
+      past .viewlinksAt (place p v) (omega arith) ∙ (λ i. getD (getD (m .shelves) (d i) noStore .viewlinks) (e i) 0)
+
   receipt-same : (p j : ℕ) → j < 16 → receiptIn held viewlinks p j ≡ receiptOf m p j
   unfolding receiptOf
   receipt-same p j b =
       elim (decLt p 8) [
-        | yes q ↦ rw (past .viewlinksAt) (simp (lt-leb 8 p q, past .heldAt (place p (number j 1)) (omega arith)))
+        | yes q ↦ simp (lt-leb 8 p q, past .heldAt (place p (number j 1)) (omega arith), link-same p (number j 1) q (omega arith))
         | no q ↦ simp (le-leb 8 p (omega arith), nothing-held m (past .long) p (number j 1) (omega arith))
       ]
 

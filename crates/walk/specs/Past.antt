@@ -1,12 +1,12 @@
 -- What the walk takes from a machine before it goes: arrays that are lent, so that no visit copies the machine.
-use Prim.Native.Nat.{ℕ, _+_, _*_, _-_, _≤_, _<_}
+use Prim.Native.Nat.{ℕ, _+_, _*_, _-_, _/_, _%_, _≤_, _<_}
 use mathlib.Core.Path.{_≡_}
 use mathlib.Core.Bool.{Bool, false, _&&_, not}
 use mathlib.Core.List.{List}
 use lib.Dec.{leb, eqb}
 use lib.ListN.{length, getD}
 use Rattle.protocol.specs.Words.{pick}
-use Rattle.protocol.specs.Slots.{number, place, linksPlace, noView, noRepair, noEntry, noContents, noLinks, statusNumber}
+use Rattle.protocol.specs.Slots.{number, place, linksPlace, noView, noRepair, noEntry, noContents, noLinks, noStore, statusNumber}
 use Rattle.protocol.specs.Closed.{closedOf}
 use Rattle.protocol.specs.declared.State.{State}
 use Rattle.protocol.specs.declared.View.{View}
@@ -14,6 +14,7 @@ use Rattle.protocol.specs.declared.Repair.{Repair}
 use Rattle.protocol.specs.declared.Entry.{Entry}
 use Rattle.protocol.specs.declared.Contents.{Contents}
 use Rattle.protocol.specs.declared.Links.{Links}
+use Rattle.protocol.specs.declared.Store.{Store}
 
 -- a view that rests: in phase 5, no repair in flight, no entry to-send or waiting
 abbrev pub restsIn : View → Repair → Entry → Bool
@@ -33,6 +34,10 @@ heldIn contents i = getD contents i noContents .held
 
 abbrev pub causesIn : List Contents → ℕ → ℕ
 causesIn contents i = getD contents i noContents .causes
+
+-- by place, the viewlink
+abbrev pub viewlinkIn : List Store → ℕ → ℕ
+viewlinkIn shelves i = getD (getD shelves (i / 32) noStore .viewlinks) (i % 32) 0
 
 -- the first n of the sixteen cause links of a sender are laid from `at`; what stands before stays
 pub record Laid (n at : ℕ) (links before after : List ℕ) : Type 0 where
@@ -54,7 +59,7 @@ pub record Past (m : State) (closed held : List Bool) (causes links viewlinks : 
   pub heldAt : (i : ℕ) → i < 256 → getD held i false ≡ heldIn (m .contents) i
   pub causesAt : (i : ℕ) → i < 256 → getD causes i 0 ≡ causesIn (m .contents) i
   pub linksAt : LaidOut 128 (m .links) links
-  pub viewlinksAt : viewlinks ≡ m .viewlinks
+  pub viewlinksAt : (i : ℕ) → i < 256 → getD viewlinks i 0 ≡ viewlinkIn (m .shelves) i
 
 -- as `foundOf`, `receiptOf` and `hopOf`, in these arrays; no store is behind the eighth
 abbrev pub foundIn : List Bool → List Bool → ℕ → ℕ → Bool

@@ -1,14 +1,14 @@
 // The walk back over what the stores hold: visiting a sender record calls the loop over its causes,
 // which calls the visit of each cause's record. The key falls.
 ghost use mathlib.Core.Path.{_≡_};
-ghost use mathlib.Core.Bool.{true, false, _&&_};
-ghost use lib.ListN.{length};
-ghost use Prim.Native.Nat.{ℕ, _+_, _<_, _≤_};
+ghost use mathlib.Core.Bool.{true, false, not, _&&_};
+ghost use lib.ListN.{length, getD};
+ghost use Prim.Native.Nat.{ℕ, _+_, _*_, _<_, _≤_};
 ghost use Rattle.protocol.specs.Words.{bit, table};
 ghost use Rattle.protocol.specs.Broken.{brokenOf};
-ghost use Rattle.protocol.specs.Walk.{added, spoiled, causesHeld, hopOf, each, visitOf, refusedWalk, answerOf, walkOf};
-ghost use Rattle.walk.specs.Past.{restsIn, closedIn, heldIn, causesIn, Laid, LaidOut, Past, foundIn, receiptIn, hopIn};
-ghost use Rattle.reaches.specs.Tally.{Tally};
+ghost use Rattle.protocol.specs.Walk.{added, spoiled, lookedUp, causesHeld, hopOf, each, toCause, visitOf, refusedWalk, answerOf, walkOf};
+ghost use Rattle.walk.specs.Past.{restsIn, closedIn, heldIn, causesIn, viewlinkIn, Laid, LaidOut, Past, foundIn, receiptIn, hopIn};
+ghost use Rattle.reaches.specs.Tally.{Tally, Looked};
 use broken::is_broken;
 use protocol::Contents;
 use protocol::Entry;
@@ -16,6 +16,7 @@ use protocol::Links;
 use protocol::Met;
 use protocol::Repair;
 use protocol::State;
+use protocol::Store;
 use protocol::View;
 use protocol::Walked;
 use protocol::status_number;
@@ -29,6 +30,16 @@ fn add(w: Met, k: usize) -> Met
     w.met[k] = true;
     w.keys[at] = k as u8;
     w.count += 1;
+    w
+}
+
+// One store entry more is looked up.
+fn look_up(w: Met) -> Met
+    requires { ⌜ w .lookups < 255 ⌝ }
+    ensures { λ r. ⌜ r ≡ lookedUp w ⌝ }
+{
+    let mut w = w;
+    w.lookups += 1;
     w
 }
 
@@ -49,6 +60,7 @@ fn answer(w: Met) -> Walked
             answer: 0,
             keys,
             count: w.count,
+            lookups: w.lookups,
         };
     }
     refused(13)
@@ -61,6 +73,7 @@ fn refused(answer: u8) -> Walked
         answer,
         keys: [0u8; 16],
         count: 0,
+        lookups: 0,
     }
 }
 
@@ -159,6 +172,20 @@ fn all_causes(contents: [Contents; 256]) -> [u16; 256]
     causes
 }
 
+// The viewlinks, by place.
+fn all_viewlinks(shelves: [Store; 8]) -> [u8; 256]
+    ensures { λ r. ⌜ r ≡ table (viewlinkIn shelves) 256 ⌝ }
+{
+    let mut out = [0u8; 256];
+    let mut i: usize = 0;
+    while i < 256 {
+        let s = shelves[i / 32];
+        out[i] = s.viewlinks[i % 32];
+        i += 1;
+    }
+    out
+}
+
 // The sixteen cause links of a sender, laid from `at`.
 fn lay(out: &mut [u8; 2048], at: usize, links: Links)
     requires { ⌜ (at + 16 ≤ 2048) × (length (now out) ≡ 2048) ⌝ }
@@ -236,6 +263,21 @@ fn receipt<'a>(held: &'a [bool; 256], viewlinks: &'a [u8; 256], p: usize, j: usi
     0
 }
 
+// A cause of the set that is not met, while nothing is missing.
+fn is_due(set: u16, j: usize, fine: bool, met: bool) -> bool
+    requires { ⌜ j < 16 ⌝ }
+    ensures { λ r. ⌜ r ≡ bit set j && (fine && not met) ⌝ }
+{
+    if has(set, j) {
+        if fine {
+            return !met;
+        }
+        return false;
+    }
+    false
+}
+
+// The sender record of a key that is not met is looked up by a link.
 fn visit<'a>(
     w: Met,
     closed: &'a [bool; 16],
@@ -246,22 +288,26 @@ fn visit<'a>(
     k: usize,
     link: usize,
 ) -> Met
-    requires { ⌜ (k < 16) × Tally w ⌝ }
-    ensures tally { λ r. ⌜ Tally r ⌝ }
+    requires { ⌜ (k < 16) × Tally w × (getD (w .met) k false ≡ false) × (w .lookups ≡ 2 * w .count) ⌝ }
+    ensures tally { λ r. ⌜ Tally r × Looked r ⌝ }
     ensures same { λ r. ⌜ ((m : State) → Past m (now (closed .entry)) (now (held .entry)) (now (sets .entry)) (now (links .entry)) (now (viewlinks .entry)) → (depth : ℕ) → k < depth → r ≡ visitOf depth m k link w) ⌝ }
 {
-    if !w.fine {
-        return w;
-    }
-    if w.met[k] {
-        return w;
-    }
     if found(closed, held, k, link) {
-        return causes(add(w, k), closed, held, sets, links, viewlinks, k, link);
+        return causes(
+            add(look_up(w), k),
+            closed,
+            held,
+            sets,
+            links,
+            viewlinks,
+            k,
+            link,
+        );
     }
     spoil(w)
 }
 
+// For each cause that is due, the receipt is looked up; a key met again is not.
 fn causes<'a>(
     w: Met,
     closed: &'a [bool; 16],
@@ -272,17 +318,17 @@ fn causes<'a>(
     k: usize,
     link: usize,
 ) -> Met
-    requires { ⌜ (k < 16) × (1 ≤ link) × (link ≤ 8) × Tally w ⌝ }
-    ensures tally { λ r. ⌜ Tally r ⌝ }
-    ensures same { λ r. ⌜ ((m : State) → Past m (now (closed .entry)) (now (held .entry)) (now (sets .entry)) (now (links .entry)) (now (viewlinks .entry)) → (depth : ℕ) → k ≤ depth → r ≡ each (λ j. visitOf depth m j (hopOf m k link j)) (causesHeld m k link) k 0 w) ⌝ }
+    requires { ⌜ (k < 16) × (1 ≤ link) × (link ≤ 8) × Tally w × Looked w ⌝ }
+    ensures tally { λ r. ⌜ Tally r × Looked r ⌝ }
+    ensures same { λ r. ⌜ ((m : State) → Past m (now (closed .entry)) (now (held .entry)) (now (sets .entry)) (now (links .entry)) (now (viewlinks .entry)) → (depth : ℕ) → k ≤ depth → r ≡ each (toCause (visitOf depth m) m k link) (causesHeld m k link) k 0 w) ⌝ }
 {
     let set = sets[(link - 1) * 32 + k * 2];
     let mut out = w;
     let mut j = 0;
     while j < k {
-        if has(set, j) {
+        if is_due(set, j, out.fine, out.met[j]) {
             let next = hop(held, links, viewlinks, k, link, j);
-            out = visit(out, closed, held, sets, links, viewlinks, j, next);
+            out = visit(look_up(out), closed, held, sets, links, viewlinks, j, next);
             j += 1;
         } else {
             j += 1;
@@ -306,23 +352,26 @@ fn walk_unbroken(m: State, key: u8) -> Walked
         met: [false; 16],
         keys: [0u8; 16],
         count: 0,
+        lookups: 0,
     };
     let views = m.views;
     let repairs = m.repairs;
     let entries = m.entries;
     let contents = m.contents;
     let links = m.links;
+    let shelves = m.shelves;
     let closed = all_closed(views, repairs, entries);
     let held = all_held(contents);
     let sets = all_causes(contents);
     let laid = all_links(links);
+    let viewlinks = all_viewlinks(shelves);
     let walked = visit(
         unmet,
         &closed,
         &held,
         &sets,
         &laid,
-        &m.viewlinks,
+        &viewlinks,
         k,
         link(view.store),
     );

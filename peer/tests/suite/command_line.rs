@@ -5,8 +5,10 @@ use std::io::Write;
 use std::os::unix::fs::PermissionsExt;
 use std::path::{Path, PathBuf};
 use std::process::{Command, Output, Stdio};
+use std::sync::atomic::{AtomicUsize, Ordering};
 
 use peer::generate::generate;
+use peer::prep;
 
 const PEER: &str = env!("CARGO_BIN_EXE_peer");
 
@@ -23,10 +25,13 @@ fn text(bytes: &[u8]) -> &str {
     std::str::from_utf8(bytes).expect("what is printed is text")
 }
 
-/// A program that does what one subcommand does.
+/// A program that does what one subcommand does, at a path of its own: tests run side by side.
 fn stand_in(subcommand: &str) -> PathBuf {
-    let path = Path::new(env!("CARGO_TARGET_TMPDIR")).join(subcommand);
-    fs::write(&path, format!("#!/bin/sh\nexec '{PEER}' {subcommand}\n")).expect("it is written");
+    static MADE: AtomicUsize = AtomicUsize::new(0);
+    let name = format!("{subcommand}-{}", MADE.fetch_add(1, Ordering::Relaxed));
+    let path = Path::new(env!("CARGO_TARGET_TMPDIR")).join(name);
+    fs::write(&path, format!("#!/bin/sh\nexec '{PEER}' {subcommand} \"$@\"\n"))
+        .expect("it is written");
     fs::set_permissions(&path, Permissions::from_mode(0o755)).expect("it is made to run");
     path
 }
@@ -49,6 +54,7 @@ fn mistakes_are_told_with_exit_code_2() {
         (&["text", "no such file"], "", "peer: no such file: "),
         (&["generate", "x"], "", "peer: `x` isn't a number"),
         (&["compare", "0", "1", "./none", "./none"], "", "peer: ./none: "),
+        (&["check", "no such folder"], "", "peer: no such folder: "),
         (&["coverage", "1"], "", "peer: usage:"),
         (&[], "", "peer: usage:"),
     ] {
@@ -76,6 +82,64 @@ fn a_comparison_without_a_difference_says_so() {
     let programs = [recorder, inspect].map(|path| path.display().to_string());
     let output = peer(&["compare", "20", "40", &programs[0], &programs[1]], &[]);
     assert_eq!(text(&output.stdout), "40 books from seed 20: no difference\n");
+    assert_eq!(output.status.code(), Some(0));
+}
+
+#[test]
+fn lineages_are_compared_with_their_words() {
+    let program = stand_in("lineage").display().to_string();
+    let output = peer(&["compare-lineage", "0", "40", &program], &[]);
+    assert_eq!(text(&output.stdout), "40 books from seed 0: no difference\n");
+    // One that never drains is wrong where a drain is asked for.
+    let undrained = stand_in("lineage \"$1\" #").display().to_string();
+    let output = peer(&["compare-lineage", "0", "1", &undrained], &[]);
+    let told = text(&output.stdout);
+    assert!(told.starts_with("seed 0: lineage ") && told.contains(" drained differs"), "{told}");
+    assert_eq!(output.status.code(), Some(1));
+}
+
+#[test]
+fn pair_checks_are_compared_with_their_words() {
+    let program = stand_in("pair").display().to_string();
+    let output = peer(&["compare-pair", "0", "40", &program], &[]);
+    assert_eq!(text(&output.stdout), "40 books from seed 0: no difference\n");
+    // One that knows rule one alone.
+    let lax = stand_in("pair 1 \"$2\" \"$3\" #").display().to_string();
+    let output = peer(&["compare-pair", "0", "100", &lax], &[]);
+    assert!(text(&output.stdout).contains(" differs, and the smallest such book found is"));
+    assert_eq!(output.status.code(), Some(1));
+}
+
+#[test]
+fn message_files_are_compared_too() {
+    let program = stand_in("prep").display().to_string();
+    let output = peer(&["compare-prep", "0", "60", &program], &[]);
+    assert_eq!(text(&output.stdout), "60 message files from seed 0: no difference\n");
+    assert_eq!(peer(&["generate-prep", "7"], &[]).stdout, prep::generate::generate(7));
+    let output = peer(&["compare-prep", "0", "1", "cat"], &[]);
+    let expected = "seed 0: prep differs, and the smallest such message file found is\n\n\n\
+                    the peer's prep:\n\nthe prep given:\n\0\0";
+    assert_eq!(text(&output.stdout), expected);
+    assert_eq!(output.status.code(), Some(1));
+}
+
+#[test]
+fn a_folder_is_checked_with_the_programs_given() {
+    let examples = concat!(env!("CARGO_MANIFEST_DIR"), "/../examples");
+    let (recorder, inspect) = (stand_in("recorder"), stand_in("inspect"));
+    let programs = [recorder, inspect].map(|path| path.display().to_string());
+    let output = peer(&["check", examples, &programs[0], &programs[1]], &[]);
+    assert!(text(&output.stdout).ends_with(": no difference\n"));
+    assert_eq!(output.status.code(), Some(0));
+    let output = peer(&["check", examples, "cat", "cat"], &[]);
+    assert!(text(&output.stdout).contains(".inspect: the program has it otherwise"));
+    assert_eq!(output.status.code(), Some(1));
+}
+
+#[test]
+fn a_book_is_explained() {
+    let output = peer(&["explain"], &[3, 2, 0, 5, 1, 6, 1, 0, 16, 2]);
+    assert!(text(&output.stdout).contains("\n0: restart 2: refused 6: store 2 is up\n"));
     assert_eq!(output.status.code(), Some(0));
 }
 

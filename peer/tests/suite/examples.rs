@@ -3,6 +3,7 @@
 use std::fs;
 use std::path::{Path, PathBuf};
 
+use peer::lineage::lineage;
 use peer::programs::{inspect, recorder};
 use peer::text;
 
@@ -45,5 +46,12 @@ fn the_rollback_finds_the_pair_after_the_drain() {
     let inspection = String::from_utf8(kept("rollback", "inspect")).expect("lines of text");
     let (before, after) = inspection.split_once("drain 0 ").expect("a drain that is taken");
     assert!(before.contains("\nW 2 13\n"));
-    assert!(after.contains("\nW 2 0 3 2 0 1\n"));
+    assert!(after.contains("\nW 2 0 3 5 2 0 1\n"));
+}
+
+#[test]
+fn the_rollbacks_forecast_is_kept_as_prov_n() {
+    let book = kept("rollback", "book");
+    let words = ["2", "drained"].map(String::from);
+    assert_eq!(kept("rollback", "provn"), lineage(&words, &book).into_bytes());
 }

@@ -6,6 +6,7 @@ use peer::generate::generate;
 use peer::machine::{members, Machine, View};
 use peer::refusal::Refusal;
 use peer::step::Step;
+use peer::walk::Walk;
 
 /// The machines that the books of some seeds lead to, with all stores up again.
 fn machines() -> impl Iterator<Item = (u64, Machine)> {
@@ -85,7 +86,8 @@ fn after_a_drain_every_walk_meets_what_led_to_its_key() {
         for key in 0..machine.interaction_count {
             let mut met = Vec::new();
             reachable(&machine, key, &mut met);
-            assert_eq!(machine.walk(key), Ok(met), "seed {seed} key {key}");
+            let lookups = 2 * met.len() - 1;
+            assert_eq!(machine.walk(key), Ok(Walk { keys: met, lookups }), "seed {seed} key {key}");
         }
     }
 }

@@ -5,6 +5,7 @@ use peer::book;
 use peer::machine::{Machine, Phase, View};
 use peer::refusal::Refusal;
 use peer::text;
+use peer::walk::Walk;
 
 const SENDER: View = View { key: 0, role: 0 };
 const RECEIVER: View = View { key: 0, role: 1 };
@@ -134,6 +135,6 @@ fn w12_a_walk_before_and_after_the_drain() {
     let mut machine = run_taken(&format!("{M}{S} receive 0 \n send 1 0 own 1 data 7 causes 0"));
     assert_eq!(machine.walk(1), Err(Refusal::Open));
     assert_eq!(machine.drain(), Ok(21));
-    assert_eq!(machine.walk(1), Ok(vec![1, 0]));
+    assert_eq!(machine.walk(1), Ok(Walk { keys: vec![1, 0], lookups: 3 }));
     assert_eq!(machine.walk(2), Err(Refusal::NotInMachine));
 }

@@ -40,7 +40,7 @@ L 0 0 0 1
 V 0 1 1 5 7 1 0 0 0
 S 1 0 1 1 7 0
 L 1 0 1 0
-W 0 0 1 0
+W 0 0 1 1 0
 W 1 2
 ";
     assert_eq!(inspect(&EXAMPLE), expected);

@@ -3,6 +3,7 @@
 use crate::common::run;
 use peer::machine::{Machine, View};
 use peer::refusal::Refusal;
+use peer::walk::Walk;
 
 const SETUP: &str = "
     stores 3
@@ -45,10 +46,22 @@ fn diamond() -> Machine {
     )
 }
 
+/// The walk that answers these keys with so many lookups.
+fn answer(keys: &[u8], lookups: usize) -> Result<Walk, Refusal> {
+    Ok(Walk { keys: keys.to_vec(), lookups })
+}
+
 #[test]
 fn a_cause_is_walked_before_the_next_is_met() {
-    assert_eq!(fork().walk(3), Ok(vec![3, 1, 0, 2]));
-    assert_eq!(diamond().walk(3), Ok(vec![3, 1, 0, 2]));
+    assert_eq!(fork().walk(3), answer(&[3, 1, 0, 2], 7));
+    assert_eq!(diamond().walk(3), answer(&[3, 1, 0, 2], 7));
+}
+
+#[test]
+fn the_start_costs_one_lookup_and_each_key_after_it_two() {
+    assert_eq!(fork().walk(0), answer(&[0], 1));
+    assert_eq!(fork().walk(1), answer(&[1, 0], 3));
+    assert_eq!(diamond().walk(2), answer(&[2, 0], 3));
 }
 
 #[test]
@@ -67,7 +80,7 @@ fn a_walk_follows_links_to_where_the_records_moved() {
     assert_eq!(machine.record(View::sender(0)).store, 2);
     assert_eq!(machine.record(View::receiver(0)).store, 2);
     assert_eq!(machine.record(View::sender(1)).cause_links[0], 2);
-    assert_eq!(machine.walk(1), Ok(vec![1, 0]));
+    assert_eq!(machine.walk(1), answer(&[1, 0], 3));
 }
 
 #[test]
@@ -83,7 +96,7 @@ fn everything_on_the_way_must_be_there() {
         remove(&mut machine);
         assert!(!machine.is_broken());
         assert_eq!(machine.walk(3), Err(Refusal::Open));
-        assert_eq!(machine.walk(2), Ok(vec![2]));
+        assert_eq!(machine.walk(2), answer(&[2], 1));
     }
 }
 
@@ -96,5 +109,5 @@ fn a_key_met_again_is_not_looked_up_again() {
     machine.place_mut(1, View::sender(2)).contents = Some(contents);
     assert!(!machine.is_broken());
     assert_eq!(machine.walk(2), Err(Refusal::Open));
-    assert_eq!(machine.walk(3), Ok(vec![3, 1, 0, 2]));
+    assert_eq!(machine.walk(3), answer(&[3, 1, 0, 2], 7));
 }

@@ -13,11 +13,14 @@ abbrev μ-loop : tie.MeasureT-loop
 loop-holds : tie.Need-loop-holds Inv-loop μ-loop
 loop-holds c = search needs
 
-cast-restart : tie.Need-cast-restart Inv-loop μ-loop
-cast-restart c = search needs
+cast-s : tie.Need-cast-s Inv-loop μ-loop
+cast-s c = search needs
 
-array-read-restart : tie.Need-array-read-restart Inv-loop μ-loop
-array-read-restart c = search needs
+mul-s : tie.Need-mul-s Inv-loop μ-loop
+mul-s c = search needs
+
+element-copy-out-s : tie.Need-element-copy-out-s Inv-loop μ-loop
+element-copy-out-s c = search needs
 
 restart-requires : tie.Need-restart-requires Inv-loop μ-loop
 restart-requires c κs = search needs
@@ -41,8 +44,9 @@ restart-all-spec =
     Inv-loop
     μ-loop
     loop-holds
-    cast-restart
-    array-read-restart
+    cast-s
+    mul-s
+    element-copy-out-s
     restart-requires
     add-p
     loop-less

@@ -23,7 +23,7 @@ after-requires c κs = search needs
 returns : tie.Need-returns
 returns c =
     let left = ne-eqb _ 0 (c .if1 .taken) in
-    (walk-unrun (past (c .before .before)) _ _ (c .if1 .taken), (simp left, simp left))
+    (walk-unrun (past (c .before .before)) _ _ (c .if1 .taken), (simp left, (simp left, simp left)))
 
 walk-requires : tie.Need-walk-requires
 walk-requires c κs = search needs
@@ -31,7 +31,7 @@ walk-requires c κs = search needs
 returns-2 : tie.Need-returns-2
 returns-2 c =
     let left = ne-eqb _ 0 (c .if2 .taken) in
-    (walk-refused (walks (c .before .before)) _ (c .before .before .before .before .if1 .left) (c .if2 .taken), (simp left, simp left))
+    (walk-refused (walks (c .before .before)) _ (c .before .before .before .before .if1 .left) (c .if2 .taken), (simp left, (simp left, simp left)))
 
 slice-aggregate-put : tie.Need-slice-aggregate-put
 slice-aggregate-put c = search needs
@@ -51,7 +51,7 @@ returns-3 : tie.Need-returns-3
 returns-3 c =
     let p = walks (c .before .before .before .before .before .before .before .before .before .before) in
     let puts = c .before .before .before .put .ensures in
-    (walk-shown p _ (c .before .before .before .before .before .before .before .before .before .before .before .before .if1 .left) (c .before .before .before .before .before .before .before .before .if2 .left) (puts .0), (rw (walked p) at (puts .1), simp (ne-eqb _ 0 (c .if3 .taken))))
+    (walk-shown p _ (c .before .before .before .before .before .before .before .before .before .before .before .before .if1 .left) (c .before .before .before .before .before .before .before .before .if2 .left) (puts .0), (rw (walked p) at (puts .1), (simp (ne-eqb _ 0 (c .if3 .taken)), simp (ne-eqb _ 0 (c .if3 .taken)))))
 
 same-length-2 : tie.Need-same-length-2
 same-length-2 c = search needs
@@ -61,7 +61,7 @@ returns-4 c =
     let p = walks (c .before .before .before .before .before .before .before .before .before .before) in
     let puts = c .before .before .before .put .ensures in
     let none = c .if3 .left in
-    (sym none ∙ walk-shown p _ (c .before .before .before .before .before .before .before .before .before .before .before .before .if1 .left) (c .before .before .before .before .before .before .before .before .if2 .left) (puts .0), (simp (none, walked p) at (puts .1), ap (λ (x : Walked). x .count) (walked p)))
+    (sym none ∙ walk-shown p _ (c .before .before .before .before .before .before .before .before .before .before .before .before .if1 .left) (c .before .before .before .before .before .before .before .before .if2 .left) (puts .0), (simp (none, walked p) at (puts .1), (ap (λ (x : Walked). x .count) (walked p), ap (λ (x : Walked). x .lookups) (walked p))))
 
 pub tautlichen-walk-spec : {M : Type 1} → statement M
 tautlichen-walk-spec =

@@ -8,9 +8,11 @@ use native.Mathlib.Omega.{arith}
 use lib.ListN.{length, getD, replicate, length-replicate, getD-replicate}
 use lib.Seq.{ext-getD}
 use Rattle.protocol.specs.Words.{bit, table}
-use Rattle.protocol.specs.Slots.{number, place, linksPlace, noView, noQueue, noContents, noLinks, noMessage, noRepair, noEntry, statusNumber, queue, message, view, repair, entry, contents, causeLinks}
-use Rattle.protocol.specs.Setup.{blankView, blankQueue, blankLinks, freshWith, emptyMachine}
+use Rattle.protocol.specs.Slots.{number, place, linksPlace, noView, noQueue, noContents, noLinks, noMessage, noRepair, noEntry, noStore, statusNumber, shelf, queue, message, view, repair, entry, contents, causeLinks}
+use Rattle.protocol.specs.Views.{blankView, unsetView, relinked}
+use Rattle.protocol.specs.Setup.{blankQueue, blankLinks, freshStore, freshWith, emptyMachine}
 use Rattle.protocol.specs.declared.State.{State}
+use Rattle.protocol.specs.declared.View.{View}
 use Rattle.protocol.specs.declared.Status.{Status}
 use Rattle.protocol.specs.declared.Status.the-variants.{Nothing, ToSend, Waiting, Done}
 use Rattle.unbroken.specs.Blank.{OneEmpty}
@@ -51,19 +53,11 @@ module _ (m : State) (s : EverySlot m) (noStores : m .stores ≡ 0) (noActors : 
   view-blank : (v : ℕ) → v < 32 → view m v ≡ blankView
   view-blank v h =
       let w = s .viewAt v h in
-      let z = phase-blank v h in
-      let causes = w .causesUnset z in
+      let unset = w .unset (phase-blank v h) in
+      let causes = ap (λ (x : View). x .causes) unset in
       let links = all-same (view m v .links) 16 0 0 (w .linksLong) (λ j b. w .linkBlank j b (ap (λ (c : ℕ). bit c j) causes ∙ bit-none j)) in
-      λ i. record {
-        actor = w .actorBlank (omega arith) i;
-        phase = z i;
-        store = w .storeUnset z i;
-        viewlink = w .viewlinkUnset z i;
-        changed = w .changedUnset z i;
-        causes = causes i;
-        word = w .wordUnset z i;
-        links = links i;
-      }
+      let actor = w .actorBlank (omega arith) in
+      unset ∙ (λ i. relinked (links i) (unsetView (actor i)))
 
   queue-blank : (a : ℕ) → a < 8 → queue m a ≡ blankQueue
   queue-blank a h =
@@ -105,6 +99,13 @@ module _ (m : State) (s : EverySlot m) (noStores : m .stores ≡ 0) (noActors : 
       let to = all-same (causeLinks m p k) 16 0 0 (l .long) (λ j c. l .linksBlank j c (held-none p (number k 0) h (omega arith))) in
       λ i. record { to = to i }
 
+  shelf-blank : (p : ℕ) → p < 8 → shelf m p ≡ freshStore false
+  shelf-blank p h =
+      let x = s .storeAt p h in
+      let up = x .upBlank (omega arith) in
+      let viewlinks = all-same (shelf m p .viewlinks) 32 0 0 (x .long) (λ v b. none-left _ (λ l. omega (arith, x .linkAt v b .atStore l))) in
+      λ i. record { up = up i; viewlinks = viewlinks i }
+
   is-empty : m ≡ emptyMachine
   unfolding emptyMachine freshWith table
   is-empty =
@@ -112,7 +113,7 @@ module _ (m : State) (s : EverySlot m) (noStores : m .stores ≡ 0) (noActors : 
       let homes = all-same (m .homes) 8 0 0 (z .homes) (λ a h. s .homeBlank a h (omega arith)) in
       let lists = all-same (m .lists) 8 0 0 (z .lists) (λ a h. s .listBlank a h (omega arith)) in
       let queues = all-same (m .queues) 8 blankQueue noQueue (z .queues) queue-blank in
-      let up = all-same (m .up) 8 false false (z .up) (λ p h. s .upBlank p h (omega arith)) in
+      let shelves = all-same (m .shelves) 8 (freshStore false) noStore (z .shelves) shelf-blank in
       let messages = all-same (m .messages) 16 noMessage noMessage (z .messages) message-blank in
       let views = all-same (m .views) 32 blankView noView (z .views) view-blank in
       let repairs = all-same (m .repairs) 32 noRepair noRepair (z .repairs) repair-blank in
@@ -123,7 +124,6 @@ module _ (m : State) (s : EverySlot m) (noStores : m .stores ≡ 0) (noActors : 
       let uacks = places-same (m .uacks) 0 0 (z .uacks) (λ p v h k. no-copies noStores (s .uackAt p v h k)) in
       let held = places-same (m .contents) noContents noContents (z .contents) contents-blank in
       let links = links-same (m .links) blankLinks noLinks (z .links) links-blank in
-      let viewlinks = places-same (m .viewlinks) 0 0 (z .viewlinks) (λ p v h k. none-left _ (λ l. omega (arith, s .viewlinkAt p v h k .atStore l))) in
       λ i. record {
         stores = noStores i;
         actors = noActors i;
@@ -131,7 +131,7 @@ module _ (m : State) (s : EverySlot m) (noStores : m .stores ≡ 0) (noActors : 
         homes = homes i;
         lists = lists i;
         queues = queues i;
-        up = up i;
+        shelves = shelves i;
         messages = messages i;
         views = views i;
         repairs = repairs i;
@@ -142,7 +142,6 @@ module _ (m : State) (s : EverySlot m) (noStores : m .stores ≡ 0) (noActors : 
         uacks = uacks i;
         contents = held i;
         links = links i;
-        viewlinks = viewlinks i;
       }
 
 pub one-empty : OneEmpty

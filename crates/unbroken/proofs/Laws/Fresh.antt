@@ -9,12 +9,14 @@ use lib.ListN.{length, getD, replicate, length-replicate, getD-replicate}
 use lib.Dec.{ltb}
 use borrow.Author.Tests.{lt-ltb, le-ltb}
 use Rattle.protocol.specs.Words.{pick, table}
-use Rattle.protocol.specs.Slots.{number, place, linksPlace, noView, noQueue, noContents, noLinks, noMessage, noRepair, noEntry}
-use Rattle.protocol.specs.Setup.{blankView, blankQueue, blankLinks, ofActors, freshWith, emptyMachine, legal}
+use Rattle.protocol.specs.Slots.{number, place, linksPlace, noView, noQueue, noContents, noLinks, noMessage, noRepair, noEntry, noStore}
+use Rattle.protocol.specs.Views.{blankView}
+use Rattle.protocol.specs.Setup.{blankQueue, blankLinks, freshStore, ofActors, freshWith, emptyMachine, legal}
 use Rattle.protocol.specs.Broken.{brokenOf}
 use Rattle.unbroken.specs.Blank.{Blank}
-use Rattle.unbroken.specs.EverySlot.{SetupKind, none, some, ViewSlot, QueueSlot, MessageSlot, RepairSlot, EntrySlot, CopySlot, ContentsSlot, LinksSlot, ViewlinkSlot, EverySlot}
+use Rattle.unbroken.specs.EverySlot.{SetupKind, none, some, ViewSlot, QueueSlot, MessageSlot, RepairSlot, EntrySlot, CopySlot, ContentsSlot, LinksSlot, ViewlinkSlot, StoreSlot, EverySlot}
 use Rattle.protocol.specs.declared.View.{View}
+use Rattle.protocol.specs.declared.Store.{Store}
 use Rattle.unbroken.proofs.Laws.Tests.{not-both}
 use Rattle.unbroken.proofs.Laws.Every.{length-table, table-at}
 use Rattle.unbroken.proofs.Laws.SlotTests.{legal-says}
@@ -50,11 +52,7 @@ blank-view stores actors sender v h =
       linkBlank = λ j b e. getD-replicate {A = ℕ} 16 j 0 0 b;
       storeIn = λ b. absurd (omega arith);
       viewlinkIn = λ b. absurd (omega arith);
-      storeUnset = λ b. refl;
-      viewlinkUnset = λ b. refl;
-      changedUnset = λ b. refl;
-      causesUnset = λ b. refl;
-      wordUnset = λ b. refl;
+      unset = λ b. refl;
       actorIn = λ b. absurd (omega arith);
       phase5 = λ b. absurd (omega arith);
       senderMade = λ b. absurd (omega arith);
@@ -129,6 +127,17 @@ blank-links held links to f e =
 blank-viewlink : (stores p v : ℕ) → ViewlinkSlot stores 0 p v 0
 blank-viewlink stores p v = record { linkIn = omega arith; atStore = λ h. absurd (omega arith); atView = λ h. absurd (omega arith) }
 
+fresh-store : (stores p : ℕ) → StoreSlot stores 0 p (freshStore (ltb p stores))
+fresh-store stores p =
+    record {
+      upBlank = le-ltb p stores;
+      long = refl;
+      linkAt = λ v h. rw (getD-replicate {A = ℕ} 32 v 0 0 h) (blank-viewlink stores p v);
+    }
+
+store-at : (stores p : ℕ) → p < 8 → getD (table (λ q. freshStore (ltb q stores)) 8) p noStore ≡ freshStore (ltb p stores)
+store-at stores p h = table-at (λ q. freshStore (ltb q stores)) 8 noStore p h
+
 module _ (stores actors : ℕ) (homes lists : List ℕ) where
   view-at : (v : ℕ) → v < 32 → getD (replicate 32 blankView) v noView ≡ blankView
   view-at v h = getD-replicate 32 v blankView noView h
@@ -144,7 +153,7 @@ module _ (stores actors : ℕ) (homes lists : List ℕ) where
           homes = length-table (ofActors actors homes) 8;
           lists = length-table (ofActors actors lists) 8;
           queues = length-replicate 8 blankQueue;
-          up = length-table (λ p. ltb p stores) 8;
+          shelves = length-table (λ p. freshStore (ltb p stores)) 8;
           messages = length-replicate 16 noMessage;
           views = length-replicate 32 blankView;
           repairs = length-replicate 32 noRepair;
@@ -155,13 +164,11 @@ module _ (stores actors : ℕ) (homes lists : List ℕ) where
           uacks = length-replicate {A = ℕ} 256 0;
           contents = length-replicate 256 noContents;
           links = length-replicate 128 blankLinks;
-          viewlinks = length-replicate {A = ℕ} 256 0;
         };
         made16 = omega arith;
         setup = kind stores actors homes lists k;
         homeBlank = row-blank actors homes;
         listBlank = row-blank actors lists;
-        upBlank = λ p h b. table-at (λ q. ltb q stores) 8 false p h ∙ le-ltb p stores b;
         viewAt = λ v h. rw (view-at v h) (blank-view stores actors _ v h);
         onceAt = λ v h. rw (view-at v h) (λ b. absurd (omega arith));
         queueAt = λ a h. rw (getD-replicate 8 a blankQueue noQueue h) (blank-queue actors a (replicate 32 blankView));
@@ -176,7 +183,7 @@ module _ (stores actors : ℕ) (homes lists : List ℕ) where
         linksAt = λ p k hp hk.
             blank-links _ _ _ (ap (λ c. c .held) (getD-replicate 256 (place p (number k 0)) noContents noContents (place-in p (number k 0) hp (omega arith))))
             (ap (λ l. l .to) (getD-replicate 128 (linksPlace p k) blankLinks noLinks (omega arith)));
-        viewlinkAt = λ p v hp hv. rw (getD-replicate {A = ℕ} 256 (place p v) 0 0 (place-in p v hp hv)) (blank-viewlink stores p v);
+        storeAt = λ p h. rw (store-at stores p h) (fresh-store stores p);
       }
 
 pub fresh-unbroken : (stores actors : ℕ) (homes lists : List ℕ) → legal stores actors homes lists ≡ true → length homes ≡ 8 → length lists ≡ 8 → brokenOf (freshWith stores actors homes lists) ≡ false
@@ -193,7 +200,7 @@ unfolding freshWith
 fresh-blank stores actors homes lists =
     record {
       made = refl;
-      up = λ p h. table-at (λ q. ltb q stores) 8 false p h;
+      up = λ p h. ap (λ (s : Store). s .up) (store-at stores p h);
       queues = λ a h. getD-replicate 8 a blankQueue noQueue h;
       messages = λ k h. getD-replicate 16 k noMessage noMessage h;
       views = λ v h. getD-replicate 32 v blankView noView h;
@@ -205,7 +212,7 @@ fresh-blank stores actors homes lists =
       uacks = λ p v hp hv. getD-replicate {A = ℕ} 256 (place p v) 0 0 (omega arith);
       held = λ p v hp hv. getD-replicate 256 (place p v) noContents noContents (omega arith);
       links = λ p k hp hk. ap (λ l. l .to) (getD-replicate 128 (linksPlace p k) blankLinks noLinks (omega arith));
-      viewlinks = λ p v hp hv. getD-replicate {A = ℕ} 256 (place p v) 0 0 (omega arith);
+      viewlinks = λ p v hp hv. ap (λ (s : Store). getD (s .viewlinks) v 0) (store-at stores p hp) ∙ getD-replicate {A = ℕ} 32 v 0 0 hv;
     }
 
 pub fresh-setup : (stores actors : ℕ) (homes lists : List ℕ) (a : ℕ) → a < 8 → a < actors

@@ -15,6 +15,7 @@ use Rattle.protocol.specs.Broken.{brokenOf}
 use Rattle.unbroken.specs.Bounds.{Bounds}
 use Rattle.unbroken.specs.EverySlot.{SetupKind, none, some, EverySlot}
 use Rattle.protocol.specs.declared.State.{State}
+use Rattle.protocol.specs.declared.View.{View}
 use Rattle.unbroken.proofs.Laws.Whole.{slots}
 use Rattle.unbroken.proofs.Laws.Counting.{few, fewer, times-none}
 
@@ -153,8 +154,8 @@ module _ (m : State) (s : EverySlot m) where
         sendRoom = λ a h few. let r = queue-few a h in omega arith;
         receiveRoom = receive-room;
         actorIn8 = actor-8;
-        storeIn8 = λ v h. below-8 (view m v .phase) (view m v .store) (s .viewAt v h .storeIn) (s .viewAt v h .storeUnset);
-        viewlinkIn8 = λ v h. below-8 (view m v .phase) (view m v .viewlink) (s .viewAt v h .viewlinkIn) (s .viewAt v h .viewlinkUnset);
+        storeIn8 = λ v h. below-8 (view m v .phase) (view m v .store) (s .viewAt v h .storeIn) (λ e. ap (λ (w : View). w .store) (s .viewAt v h .unset e));
+        viewlinkIn8 = λ v h. below-8 (view m v .phase) (view m v .viewlink) (s .viewAt v h .viewlinkIn) (λ e. ap (λ (w : View). w .viewlink) (s .viewAt v h .unset e));
         destinationIn8 = λ v h. below-8 (statusNumber (entry m v .status)) (entry m v .destination) (s .entryAt v h .destinationIn) (s .entryAt v h .destinationBlank);
         ownIn8 = λ v h. below-8 (statusNumber (entry m v .status)) (entry m v .own) (s .entryAt v h .ownIn) (s .entryAt v h .ownBlank);
       }

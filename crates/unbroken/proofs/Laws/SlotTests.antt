@@ -1,6 +1,6 @@
 -- Each test of a slot says the facts of that slot. Assumes nothing.
 use Prim.Native.Nat.{ℕ, _*_, _-_, _/_, _%_, _^_, _≤_, _<_}
-use mathlib.Core.Path.{_≡_}
+use mathlib.Core.Path.{_≡_, ap}
 use mathlib.Core.Bool.{true, false, _&&_, _||_}
 use mathlib.Core.List.{List}
 use native.Mathlib.Omega.{arith}
@@ -9,9 +9,9 @@ use lib.Dec.{leb, eqb}
 use Rattle.protocol.specs.Words.{bit, times}
 use Rattle.protocol.specs.Slots.{number, place, noView, noQueue, noContents, statusNumber, standing}
 use Rattle.protocol.specs.Setup.{storesIn, legalActor, legalActors, legal}
-use Rattle.protocol.specs.Broken.{linkFine, linksFine, phaseFine, madeView, waits, queuedOnce, viewFine, standsFine, queueFine}
-use Rattle.protocol.specs.Broken.{messageFine, repairFine, entryFine, copiesFine, contentsFine, sameLinks, heldLinksFine, viewlinkFine, setupFine}
-use Rattle.unbroken.specs.EverySlot.{LegalActor, LegalSetup, SetupKind, none, some, ViewSlot, QueueSlot, MessageSlot, RepairSlot, EntrySlot, CopySlot, ContentsSlot, LinksSlot, ViewlinkSlot}
+use Rattle.protocol.specs.Broken.{linkFine, linksFine, isUnset, phaseFine, madeView, waits, queuedOnce, viewFine, standsFine, queueFine}
+use Rattle.protocol.specs.Broken.{messageFine, repairFine, entryFine, copiesFine, contentsFine, sameLinks, heldLinksFine, viewlinkFine, viewlinksFine, storeFine, setupFine}
+use Rattle.unbroken.specs.EverySlot.{LegalActor, LegalSetup, SetupKind, none, some, Unset, ViewSlot, QueueSlot, MessageSlot, RepairSlot, EntrySlot, CopySlot, ContentsSlot, LinksSlot, ViewlinkSlot, StoreSlot}
 use Rattle.protocol.specs.declared.View.{View}
 use Rattle.protocol.specs.declared.Queue.{Queue}
 use Rattle.protocol.specs.declared.Contents.{Contents}
@@ -19,6 +19,7 @@ use Rattle.protocol.specs.declared.Links.{Links}
 use Rattle.protocol.specs.declared.Message.{Message}
 use Rattle.protocol.specs.declared.Repair.{Repair}
 use Rattle.protocol.specs.declared.Entry.{Entry}
+use Rattle.protocol.specs.declared.Store.{Store}
 use Rattle.unbroken.proofs.Laws.Tests.{by-test, not-both}
 use Rattle.unbroken.proofs.Laws.Says.{Says, le-says, lt-says, eq-says, is-says, le-splits, lt-splits, eq-splits, zero-splits, is-splits, and-says, or-says, not-says, pick-says, all-says, un-splits, not-splits, put-says}
 
@@ -37,17 +38,27 @@ unfolding linksFine
 links-says stores key causes l =
     and-says (eq-says (length l) 16) (all-says (linkFine stores key causes) (LinkFacts stores key causes) l 0 (link-says stores key causes))
 
+-- a view of which just the actor is set
+abbrev UnsetFacts : View → Type 0
+UnsetFacts w = ((((w .store ≡ 0) × (w .viewlink ≡ 0)) × (w .changed ≡ false)) × (w .causes ≡ 0)) × (w .word ≡ 0)
+
+unset-says : (w : View) → Says (isUnset w) (UnsetFacts w)
+unset-says w = and-says (and-says (and-says (and-says (eq-says (w .store) 0) (eq-says (w .viewlink) 0)) (not-says (is-splits (w .changed)))) (eq-says (w .causes) 0)) (eq-says (w .word) 0)
+
+unset-view : (w : View) → w .phase ≡ 0 → UnsetFacts w → Unset w
+unset-view w h x =
+    λ i. record { actor = w .actor; phase = h i; store = x .0 .0 .0 .0 i; viewlink = x .0 .0 .0 .1 i; changed = x .0 .0 .1 i; causes = x .0 .1 i; word = x .1 i; links = w .links }
+
+unset-facts : (w : View) → Unset w → UnsetFacts w
+unset-facts w e = ((((ap (λ (x : View). x .store) e, ap (λ (x : View). x .viewlink) e), ap (λ (x : View). x .changed) e), ap (λ (x : View). x .causes) e), ap (λ (x : View). x .word) e)
+
 -- a view
 abbrev PhaseFacts : ℕ → View → Type 0
-PhaseFacts stores w =
-    (w .phase ≡ 0 → ((((w .store ≡ 0) × (w .viewlink ≡ 0)) × (w .changed ≡ false)) × (w .causes ≡ 0)) × (w .word ≡ 0))
-    × (1 ≤ w .phase → (w .store < stores) × (w .viewlink < stores))
+PhaseFacts stores w = (w .phase ≡ 0 → UnsetFacts w) × (1 ≤ w .phase → (w .store < stores) × (w .viewlink < stores))
 
 phase-says : (stores : ℕ) (w : View) → Says (phaseFine stores w) (PhaseFacts stores w)
 phase-says stores w =
-    pick-says (zero-splits (w .phase))
-    (and-says (and-says (and-says (and-says (eq-says (w .store) 0) (eq-says (w .viewlink) 0)) (not-says (is-splits (w .changed)))) (eq-says (w .causes) 0)) (eq-says (w .word) 0))
-    (and-says (lt-says (w .store) stores) (lt-says (w .viewlink) stores))
+    pick-says (zero-splits (w .phase)) (unset-says w) (and-says (lt-says (w .store) stores) (lt-says (w .viewlink) stores))
 
 abbrev MadeFacts : ℕ → ℕ → ℕ → ℕ → View → Type 0
 MadeFacts actors made sender v w =
@@ -97,11 +108,7 @@ module _ (stores actors made : ℕ) (views : List View) (queues : List Queue) (v
           linkBlank = λ j h b. l .1 j (omega arith) .1 b;
           storeIn = λ h. p .1 h .0;
           viewlinkIn = λ h. p .1 h .1;
-          storeUnset = λ h. p .0 h .0 .0 .0 .0;
-          viewlinkUnset = λ h. p .0 h .0 .0 .0 .1;
-          changedUnset = λ h. p .0 h .0 .0 .1;
-          causesUnset = λ h. p .0 h .0 .1;
-          wordUnset = λ h. p .0 h .1;
+          unset = λ h. unset-view w h (p .0 h);
           actorIn = λ h. d .0 h .0 .0;
           phase5 = λ h. d .0 h .0 .1;
           senderMade = λ h r. d .0 h .1 .0 r;
@@ -121,7 +128,7 @@ module _ (stores actors made : ℕ) (views : List View) (queues : List Queue) (v
         (
           (
             (long, λ j h. (λ b. (s .causeBelow j (omega arith) b, s .linkIn j (omega arith) b), λ b. s .linkBlank j (omega arith) b)),
-            (λ h. ((((s .storeUnset h, s .viewlinkUnset h), s .changedUnset h), s .causesUnset h), s .wordUnset h), λ h. (s .storeIn h, s .viewlinkIn h)),
+            (λ h. unset-facts w (s .unset h), λ h. (s .storeIn h, s .viewlinkIn h)),
           ),
           (λ h. ((s .actorIn h, s .phase5 h), (λ r. s .senderMade h r, λ r. (s .receiverCauses h (role v r), s .twoActors h (role v r)))), λ h. (s .actorBlank h, s .phaseBlank h)),
         ),
@@ -266,11 +273,20 @@ held-links-says contents views at l =
     (λ x. let long = x .0 in record { long = long; sameLinks = λ j h e. x .1 .0 e j (omega arith); linksBlank = λ j h e. x .1 .1 e j (omega arith) })
     (λ s. let long = s .long in (long, (λ e j h. s .sameLinks j (omega arith) e, λ e j h. s .linksBlank j (omega arith) e)))
 
-pub viewlink-says : (stores made at l : ℕ) → Says (viewlinkFine stores made at l) (ViewlinkSlot stores made (at / 32) (at % 32) l)
-viewlink-says stores made at l =
-    put-says (or-says (zero-splits l) (and-says (le-says l stores) (and-says (lt-says (at / 32) stores) (lt-says (at % 32) (made * 2)))))
+viewlink-says : (stores made p v l : ℕ) → Says (viewlinkFine stores made p v l) (ViewlinkSlot stores made p v l)
+viewlink-says stores made p v l =
+    put-says (or-says (zero-splits l) (and-says (le-says l stores) (and-says (lt-says p stores) (lt-says v (made * 2)))))
     (λ x. record { linkIn = by-test (eqb l 0) (λ e. let z = zero-splits l .holds .tells e in omega arith) (λ e. x (zero-splits l .fails e) .0); atStore = λ h. x h .1 .0; atView = λ h. x h .1 .1 })
     (λ s h. (s .linkIn, (s .atStore h, s .atView h)))
+
+pub store-says : (stores made p : ℕ) (s : Store) → Says (storeFine stores made p s) (StoreSlot stores made p s)
+unfolding storeFine viewlinksFine
+store-says stores made p s =
+    put-says
+    (and-says (or-says (lt-splits p stores) (not-says (is-splits (s .up))))
+    (and-says (eq-says (length (s .viewlinks)) 32) (all-says (viewlinkFine stores made p) (ViewlinkSlot stores made p) (s .viewlinks) 0 (viewlink-says stores made p))))
+    (λ x. let long = x .1 .0 in record { upBlank = x .0; long = long; linkAt = λ v h. x .1 .1 v (omega arith) })
+    (λ t. let long = t .long in (t .upBlank, (long, λ v h. t .linkAt v (omega arith))))
 
 -- the setup
 legal-actor-says : (stores home list : ℕ) → Says (legalActor stores home list) (LegalActor stores home list)

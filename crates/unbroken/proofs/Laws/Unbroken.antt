@@ -20,6 +20,7 @@ module _ (m : State) where
         queueLong = λ a h. s .queueAt a h .long;
         linksLong = λ v h. s .viewAt v h .linksLong;
         heldLong = λ p k hp hk. s .linksAt p k hp hk .long;
+        viewlinksLong = λ p h. s .storeAt p h .long;
         made16 = few;
         actorIn = λ v h. s .viewAt v (omega arith) .actorIn h;
         phase5 = λ v h. s .viewAt v (omega arith) .phase5 h;
@@ -30,16 +31,12 @@ module _ (m : State) where
         uacks15 = λ p v hp hv. s .uackAt p v hp hv .copies15;
         senderMade = λ k h. s .viewAt (number k 0) (omega arith) .senderMade (omega arith) (omega arith);
         receiverCauses = λ k h. s .viewAt (number k 1) (omega arith) .receiverCauses (omega arith) (omega arith);
-        storeUnset = λ v h. s .viewAt v h .storeUnset;
-        viewlinkUnset = λ v h. s .viewAt v h .viewlinkUnset;
-        changedUnset = λ v h. s .viewAt v h .changedUnset;
-        causesUnset = λ v h. s .viewAt v h .causesUnset;
-        wordUnset = λ v h. s .viewAt v h .wordUnset;
+        viewUnset = λ v h. s .viewAt v h .unset;
         setup = s .setup;
         homeBlank = s .homeBlank;
         listBlank = s .listBlank;
         queueBlank = λ a h. s .queueAt a h .lenBlank;
-        upBlank = s .upBlank;
+        upBlank = λ p h. s .storeAt p h .upBlank;
         actorBlank = λ v h. s .viewAt v h .actorBlank;
         phaseBlank = λ v h. s .viewAt v h .phaseBlank;
         placeBlank = λ a i h. s .queueAt a h .placeBlank i;
@@ -48,8 +45,8 @@ module _ (m : State) where
         updateStore = λ p v hp hv. s .updateAt p v hp hv .atStore;
         uackStore = λ p v hp hv. s .uackAt p v hp hv .atStore;
         contentsStore = λ p v hp hv. s .contentsAt p v hp hv .atStore;
-        heldViewlinkStore = λ p v hp hv. s .viewlinkAt p v hp hv .atStore;
-        heldViewlinkMade = λ p v hp hv. s .viewlinkAt p v hp hv .atView;
+        heldViewlinkStore = λ p v hp hv. s .storeAt p hp .linkAt v hv .atStore;
+        heldViewlinkMade = λ p v hp hv. s .storeAt p hp .linkAt v hv .atView;
         linkBlank = λ v j h. s .viewAt v h .linkBlank j;
         messageOwnBlank = λ k h. s .messageAt k h .ownBlank;
         messageWordBlank = λ k h. s .messageAt k h .wordBlank;
@@ -69,7 +66,7 @@ module _ (m : State) where
         repairOwnIn = λ v h. s .repairAt v h .ownIn;
         entryDestinationIn = λ v h. s .entryAt v h .destinationIn;
         entryOwnIn = λ v h. s .entryAt v h .ownIn;
-        heldViewlinkIn = λ p v hp hv. s .viewlinkAt p v hp hv .linkIn;
+        heldViewlinkIn = λ p v hp hv. s .storeAt p hp .linkAt v hv .linkIn;
         sameActor = λ p v hp hv. s .contentsAt p v hp hv .sameActor;
         sameCauses = λ p v hp hv. s .contentsAt p v hp hv .sameCauses;
         sameWord = λ p v hp hv. s .contentsAt p v hp hv .sameWord;
@@ -107,11 +104,7 @@ module _ (m : State) where
         linkBlank = λ j. u .linkBlank v j h;
         storeIn = u .storeIn v h;
         viewlinkIn = u .viewlinkIn v h;
-        storeUnset = u .storeUnset v h;
-        viewlinkUnset = u .viewlinkUnset v h;
-        changedUnset = u .changedUnset v h;
-        causesUnset = u .causesUnset v h;
-        wordUnset = u .wordUnset v h;
+        unset = u .viewUnset v h;
         actorIn = u .actorIn v;
         phase5 = u .phase5 v;
         senderMade = λ b e. subst (λ (n : ℕ). 1 ≤ view m n .phase) (even e) (u .senderMade k (omega arith));
@@ -129,7 +122,6 @@ module _ (m : State) where
         setup = u .setup;
         homeBlank = u .homeBlank;
         listBlank = u .listBlank;
-        upBlank = u .upBlank;
         viewAt = view-slot u;
         onceAt = u .queuedOnce;
         queueAt = λ a h. record {
@@ -179,7 +171,11 @@ module _ (m : State) where
           wordBlank = u .heldWordBlank p v hp hv;
         };
         linksAt = λ p k hp hk. record { long = u .heldLong p k hp hk; sameLinks = λ j. u .sameLinks p k j hp hk; linksBlank = λ j. u .heldLinkBlank p k j hp hk };
-        viewlinkAt = λ p v hp hv. record { linkIn = u .heldViewlinkIn p v hp hv; atStore = u .heldViewlinkStore p v hp hv; atView = u .heldViewlinkMade p v hp hv };
+        storeAt = λ p hp. record {
+          upBlank = u .upBlank p hp;
+          long = u .viewlinksLong p hp;
+          linkAt = λ v hv. record { linkIn = u .heldViewlinkIn p v hp hv; atStore = u .heldViewlinkStore p v hp hv; atView = u .heldViewlinkMade p v hp hv };
+        };
       }
 
 -- a machine that is not broken has every fact of the list

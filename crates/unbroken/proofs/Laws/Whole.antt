@@ -8,42 +8,41 @@ use native.Mathlib.Omega.{arith}
 use lib.ListN.{length, getD}
 use lib.Dec.{ltb, leb, eqb}
 use borrow.Author.Tests.{not-false}
-use Rattle.protocol.specs.Slots.{number, place, linksPlace, noView, noQueue, noContents, noLinks, noMessage, noRepair, noEntry, statusNumber}
-use Rattle.protocol.specs.Slots.{view, queue, entry, contents}
-use Rattle.protocol.specs.Broken.{slotsFine, setupFine, rowsFine, upFine, viewFine, queueFine, messageFine, repairFine, entryFine, copiesFine, recordsFine, updatesFine, contentsFine, heldLinksFine, viewlinkFine, viewlinksFine, jobsFine, placesFine, wholeOf, brokenOf}
-use Rattle.unbroken.specs.EverySlot.{Sized, QueueSlot, MessageSlot, RepairSlot, EntrySlot, CopySlot, ContentsSlot, LinksSlot, ViewlinkSlot, EverySlot}
+use Rattle.protocol.specs.Slots.{number, place, linksPlace, noView, noQueue, noContents, noLinks, noMessage, noRepair, noEntry, noStore, statusNumber}
+use Rattle.protocol.specs.Slots.{view, queue, entry, contents, shelf}
+use Rattle.protocol.specs.Broken.{slotsFine, setupFine, rowsFine, viewFine, queueFine, messageFine, repairFine, entryFine, copiesFine, recordsFine, updatesFine, contentsFine, heldLinksFine, storeFine, jobsFine, placesFine, wholeOf, brokenOf}
+use Rattle.unbroken.specs.EverySlot.{Sized, QueueSlot, MessageSlot, RepairSlot, EntrySlot, CopySlot, ContentsSlot, LinksSlot, StoreSlot, EverySlot}
 use Rattle.protocol.specs.declared.State.{State}
 use Rattle.unbroken.proofs.Laws.Tests.{not-back}
 use Rattle.unbroken.proofs.Laws.Says.{Says, le-says, eq-says, is-says, is-splits, lt-splits, and-says, or-says, not-says, all-says, put-says}
-use Rattle.unbroken.proofs.Laws.SlotTests.{ViewKept, view-says, queue-says, message-says, repair-says, entry-says, copies-says, contents-says, held-links-says, viewlink-says, setup-says}
+use Rattle.unbroken.proofs.Laws.SlotTests.{ViewKept, view-says, queue-says, message-says, repair-says, entry-says, copies-says, contents-says, held-links-says, store-says, setup-says}
 
 slots-say : (m : State) → Says (slotsFine m) (Sized m)
 unfolding slotsFine
 slots-say m =
     put-says
-    (and-says (and-says (and-says (and-says (and-says (and-says (and-says (and-says (and-says (and-says (and-says (and-says (and-says (and-says
-    (eq-says (length (m .homes)) 8) (eq-says (length (m .lists)) 8)) (eq-says (length (m .queues)) 8)) (eq-says (length (m .up)) 8))
+    (and-says (and-says (and-says (and-says (and-says (and-says (and-says (and-says (and-says (and-says (and-says (and-says (and-says
+    (eq-says (length (m .homes)) 8) (eq-says (length (m .lists)) 8)) (eq-says (length (m .queues)) 8)) (eq-says (length (m .shelves)) 8))
     (eq-says (length (m .messages)) 16)) (eq-says (length (m .views)) 32)) (eq-says (length (m .repairs)) 32)) (eq-says (length (m .entries)) 32))
     (eq-says (length (m .records)) 256)) (eq-says (length (m .acks)) 256)) (eq-says (length (m .updates)) 256)) (eq-says (length (m .uacks)) 256))
-    (eq-says (length (m .contents)) 256)) (eq-says (length (m .links)) 128)) (eq-says (length (m .viewlinks)) 256))
+    (eq-says (length (m .contents)) 256)) (eq-says (length (m .links)) 128))
     (λ x. record {
-      homes = x .0 .0 .0 .0 .0 .0 .0 .0 .0 .0 .0 .0 .0 .0;
-      lists = x .0 .0 .0 .0 .0 .0 .0 .0 .0 .0 .0 .0 .0 .1;
-      queues = x .0 .0 .0 .0 .0 .0 .0 .0 .0 .0 .0 .0 .1;
-      up = x .0 .0 .0 .0 .0 .0 .0 .0 .0 .0 .0 .1;
-      messages = x .0 .0 .0 .0 .0 .0 .0 .0 .0 .0 .1;
-      views = x .0 .0 .0 .0 .0 .0 .0 .0 .0 .1;
-      repairs = x .0 .0 .0 .0 .0 .0 .0 .0 .1;
-      entries = x .0 .0 .0 .0 .0 .0 .0 .1;
-      records = x .0 .0 .0 .0 .0 .0 .1;
-      acks = x .0 .0 .0 .0 .0 .1;
-      updates = x .0 .0 .0 .0 .1;
-      uacks = x .0 .0 .0 .1;
-      contents = x .0 .0 .1;
-      links = x .0 .1;
-      viewlinks = x .1;
+      homes = x .0 .0 .0 .0 .0 .0 .0 .0 .0 .0 .0 .0 .0;
+      lists = x .0 .0 .0 .0 .0 .0 .0 .0 .0 .0 .0 .0 .1;
+      queues = x .0 .0 .0 .0 .0 .0 .0 .0 .0 .0 .0 .1;
+      shelves = x .0 .0 .0 .0 .0 .0 .0 .0 .0 .0 .1;
+      messages = x .0 .0 .0 .0 .0 .0 .0 .0 .0 .1;
+      views = x .0 .0 .0 .0 .0 .0 .0 .0 .1;
+      repairs = x .0 .0 .0 .0 .0 .0 .0 .1;
+      entries = x .0 .0 .0 .0 .0 .0 .1;
+      records = x .0 .0 .0 .0 .0 .1;
+      acks = x .0 .0 .0 .0 .1;
+      updates = x .0 .0 .0 .1;
+      uacks = x .0 .0 .1;
+      contents = x .0 .1;
+      links = x .1;
     })
-    (λ s. ((((((((((((((s .homes, s .lists), s .queues), s .up), s .messages), s .views), s .repairs), s .entries), s .records), s .acks), s .updates), s .uacks), s .contents), s .links), s .viewlinks))
+    (λ s. (((((((((((((s .homes, s .lists), s .queues), s .shelves), s .messages), s .views), s .repairs), s .entries), s .records), s .acks), s .updates), s .uacks), s .contents), s .links))
 
 -- by place: the store and the view of a place, and back
 module _ (P : ℕ → ℕ → ℕ → Type 0) (n : ℕ) where
@@ -77,11 +76,6 @@ module _ (m : State) where
   unfolding rowsFine
   rows-say l =
       all-says (λ a x. ltb a (m .actors) || eqb x 0) (λ a x. m .actors ≤ a → x ≡ 0) l 0 (λ a x. or-says (lt-splits a (m .actors)) (eq-says x 0))
-
-  up-says : Says (upFine (m .stores) (m .up)) ((p : ℕ) → p < length (m .up) → m .stores ≤ p → getD (m .up) p false ≡ false)
-  unfolding upFine
-  up-says =
-      all-says (λ p up. ltb p (m .stores) || not up) (λ p up. m .stores ≤ p → up ≡ false) (m .up) false (λ p up. or-says (lt-splits p (m .stores)) (not-says (is-splits up)))
 
   abbrev ViewsKept : Type 0
   ViewsKept = (v : ℕ) → v < length (m .views) → ViewKept (m .stores) (m .actors) (m .made) (m .views) (m .queues) v (view m v)
@@ -132,28 +126,28 @@ module _ (m : State) where
   abbrev HeldLinksKept : Type 0
   HeldLinksKept = (at : ℕ) → at < length (m .links) → LinksSlot (contents m (at / 16) (at % 16 * 2) .held) (view m (at % 16 * 2) .links) (getD (m .links) at noLinks .to)
 
-  abbrev ViewlinksKept : Type 0
-  ViewlinksKept = (at : ℕ) → at < length (m .viewlinks) → ViewlinkSlot (m .stores) (m .made) (at / 32) (at % 32) (getD (m .viewlinks) at 0)
+  abbrev StoresKept : Type 0
+  StoresKept = (p : ℕ) → p < length (m .shelves) → StoreSlot (m .stores) (m .made) p (shelf m p)
 
-  places-say : Says (placesFine m) ((((((RecordsKept (m .records) × RecordsKept (m .acks)) × UpdatesKept (m .updates)) × UpdatesKept (m .uacks)) × ContentsKept) × HeldLinksKept) × ViewlinksKept)
-  unfolding placesFine viewlinksFine
+  places-say : Says (placesFine m) ((((((RecordsKept (m .records) × RecordsKept (m .acks)) × UpdatesKept (m .updates)) × UpdatesKept (m .uacks)) × ContentsKept) × HeldLinksKept) × StoresKept)
+  unfolding placesFine
   places-say =
       and-says (and-says (and-says (and-says (and-says (and-says (records-say (m .records)) (records-say (m .acks))) (updates-say (m .updates))) (updates-say (m .uacks)))
       (all-says (contentsFine (m .stores) (m .views)) (λ at. ContentsSlot (m .stores) (at / 32) (view m (at % 32))) (m .contents) noContents (contents-says (m .stores) (m .views))))
       (all-says (heldLinksFine (m .contents) (m .views)) (λ at l. LinksSlot (contents m (at / 16) (at % 16 * 2) .held) (view m (at % 16 * 2) .links) (l .to)) (m .links) noLinks (held-links-says (m .contents) (m .views))))
-      (all-says (viewlinkFine (m .stores) (m .made)) (λ at. ViewlinkSlot (m .stores) (m .made) (at / 32) (at % 32)) (m .viewlinks) 0 (viewlink-says (m .stores) (m .made)))
+      (all-says (storeFine (m .stores) (m .made)) (StoreSlot (m .stores) (m .made)) (m .shelves) noStore (store-says (m .stores) (m .made)))
 
   abbrev Parts : Type 0
   Parts =
-      (((((((Sized m × (m .made ≤ 16)) × (setupFine (m .stores) (m .actors) (m .homes) (m .lists) ≡ true)) × Rows (m .homes)) × Rows (m .lists))
-      × ((p : ℕ) → p < length (m .up) → m .stores ≤ p → getD (m .up) p false ≡ false)) × ((((ViewsKept × QueuesKept) × MessagesKept) × RepairsKept) × EntriesKept))
-      × ((((((RecordsKept (m .records) × RecordsKept (m .acks)) × UpdatesKept (m .updates)) × UpdatesKept (m .uacks)) × ContentsKept) × HeldLinksKept) × ViewlinksKept))
+      ((((((Sized m × (m .made ≤ 16)) × (setupFine (m .stores) (m .actors) (m .homes) (m .lists) ≡ true)) × Rows (m .homes)) × Rows (m .lists))
+      × ((((ViewsKept × QueuesKept) × MessagesKept) × RepairsKept) × EntriesKept))
+      × ((((((RecordsKept (m .records) × RecordsKept (m .acks)) × UpdatesKept (m .updates)) × UpdatesKept (m .uacks)) × ContentsKept) × HeldLinksKept) × StoresKept))
 
   parts-say : Says (wholeOf m) Parts
   unfolding wholeOf
   parts-say =
-      and-says (and-says (and-says (and-says (and-says (and-says (and-says (slots-say m) (le-says (m .made) 16))
-      (is-says (setupFine (m .stores) (m .actors) (m .homes) (m .lists)))) (rows-say (m .homes))) (rows-say (m .lists))) up-says) jobs-say) places-say
+      and-says (and-says (and-says (and-says (and-says (and-says (slots-say m) (le-says (m .made) 16))
+      (is-says (setupFine (m .stores) (m .actors) (m .homes) (m .lists)))) (rows-say (m .homes))) (rows-say (m .lists))) jobs-say) places-say
 
   -- the places of the arrays, by store and view
   abbrev CopyAt : ℕ → (ℕ → ℕ) → List ℕ → ℕ → ℕ → ℕ → Type 0
@@ -165,9 +159,6 @@ module _ (m : State) where
   abbrev LinksAt : ℕ → ℕ → ℕ → Type 0
   LinksAt p k at = LinksSlot (contents m p (k * 2) .held) (view m (k * 2) .links) (getD (m .links) at noLinks .to)
 
-  abbrev ViewlinkAt : ℕ → ℕ → ℕ → Type 0
-  ViewlinkAt p v at = ViewlinkSlot (m .stores) (m .made) p v (getD (m .viewlinks) at 0)
-
   -- the sender's number, as the test writes it and as `number` does
   links-number : (p k : ℕ) → LinksAt p k (linksPlace p k) → LinksSlot (contents m p (number k 0) .held) (view m (number k 0) .links) (getD (m .links) (linksPlace p k) noLinks .to)
   links-number p k s = let q : k * 2 ≡ number k 0 = omega arith in subst (λ (n : ℕ). LinksSlot (contents m p n .held) (view m n .links) (getD (m .links) (linksPlace p k) noLinks .to)) q s
@@ -177,17 +168,16 @@ module _ (m : State) where
 
   every-slot : Parts → EverySlot m
   every-slot x =
-      let z = x .0 .0 .0 .0 .0 .0 .0 in
+      let z = x .0 .0 .0 .0 .0 .0 in
       let j = x .0 .1 in
       let p = x .1 in
-      let h8 = z .homes in let l8 = z .lists in let q8 = z .queues in let u8 = z .up in let g16 = z .messages in let v32 = z .views in let r32 = z .repairs in let e32 = z .entries in
+      let h8 = z .homes in let l8 = z .lists in let q8 = z .queues in let s8 = z .shelves in let g16 = z .messages in let v32 = z .views in let r32 = z .repairs in let e32 = z .entries in
       record {
         sized = z;
-        made16 = x .0 .0 .0 .0 .0 .0 .1;
-        setup = setup-says (m .stores) (m .actors) (m .homes) (m .lists) h8 .tells (x .0 .0 .0 .0 .0 .1);
-        homeBlank = λ a h. x .0 .0 .0 .0 .1 a (omega arith);
-        listBlank = λ a h. x .0 .0 .0 .1 a (omega arith);
-        upBlank = λ a h. x .0 .0 .1 a (omega arith);
+        made16 = x .0 .0 .0 .0 .0 .1;
+        setup = setup-says (m .stores) (m .actors) (m .homes) (m .lists) h8 .tells (x .0 .0 .0 .0 .1);
+        homeBlank = λ a h. x .0 .0 .0 .1 a (omega arith);
+        listBlank = λ a h. x .0 .0 .1 a (omega arith);
         viewAt = λ v h. j .0 .0 .0 .0 v (omega arith) .0;
         onceAt = λ v h. j .0 .0 .0 .0 v (omega arith) .1;
         queueAt = λ a h. j .0 .0 .0 .1 a (omega arith);
@@ -200,15 +190,15 @@ module _ (m : State) where
         uackAt = by-place (CopyAt 1 (λ v. statusNumber (entry m v .status)) (m .uacks)) (length (m .uacks)) (z .uacks) (p .0 .0 .0 .1);
         contentsAt = by-place ContentsAt (length (m .contents)) (z .contents) (p .0 .0 .1);
         linksAt = λ p′ k hp hk. links-number p′ k (by-links-place LinksAt (length (m .links)) (z .links) (p .0 .1) p′ k hp hk);
-        viewlinkAt = by-place ViewlinkAt (length (m .viewlinks)) (z .viewlinks) (p .1);
+        storeAt = λ p′ h. p .1 p′ (omega arith);
       }
 
   every-part : EverySlot m → Parts
   every-part s =
       let z = s .sized in
-      let h8 = z .homes in let l8 = z .lists in let q8 = z .queues in let u8 = z .up in let g16 = z .messages in let v32 = z .views in let r32 = z .repairs in let e32 = z .entries in (
+      let h8 = z .homes in let l8 = z .lists in let q8 = z .queues in let s8 = z .shelves in let g16 = z .messages in let v32 = z .views in let r32 = z .repairs in let e32 = z .entries in (
         (
-          (((((z, s .made16), setup-says (m .stores) (m .actors) (m .homes) (m .lists) h8 .told (s .setup)), λ a h. s .homeBlank a (omega arith)), λ a h. s .listBlank a (omega arith)), λ p h. s .upBlank p (omega arith)),
+          ((((z, s .made16), setup-says (m .stores) (m .actors) (m .homes) (m .lists) h8 .told (s .setup)), λ a h. s .homeBlank a (omega arith)), λ a h. s .listBlank a (omega arith)),
           ((((λ v h. (s .viewAt v (omega arith), s .onceAt v (omega arith)), λ a h. s .queueAt a (omega arith)), λ k h. s .messageAt k (omega arith)), λ v h. s .repairAt v (omega arith)), λ v h. s .entryAt v (omega arith)),
         ),
         (
@@ -228,7 +218,7 @@ module _ (m : State) where
             ),
             to-links-place LinksAt (length (m .links)) (z .links) (λ p k hp hk. links-double p k (s .linksAt p k hp hk)),
           ),
-          to-place ViewlinkAt (length (m .viewlinks)) (z .viewlinks) (s .viewlinkAt),
+          λ p h. s .storeAt p (omega arith),
         ),
       )
 

@@ -7,7 +7,9 @@ use lib.ListN.{length-map}
 use borrow.Author.Tests.{le-leb, lt-leb}
 use Rattle.unbroken.proofs.Laws.{unbroken}
 use Rattle.protocol.specs.Walk.{walkedFrom, walkOf}
+use mathlib.Core.Path.{refl}
 use Rattle.reaches.proofs.Counted.{tally-unmet}
+use Rattle.reaches.proofs.Keys.{none-met}
 use Rattle.walk.proofs.Taken.{taken}
 use borrow.Author.Needs.{needs}
 use Rattle.walk.proofs.walk_unbroken.Statement.{statement}
@@ -41,11 +43,14 @@ all-causes-requires c κs = search needs
 all-links-requires : tie.Need-all-links-requires
 all-links-requires c κs = search needs
 
+all-viewlinks-requires : tie.Need-all-viewlinks-requires
+all-viewlinks-requires c κs = search needs
+
 link-requires : tie.Need-link-requires
 link-requires c κs = search needs
 
 visit-requires : tie.Need-visit-requires
-visit-requires c κs = (omega (arith, unbroken _ (c .before .before .before .before .before .before .before .before .before .before .before .before .before .before .before .before .before .before .pre) .made16), tally-unmet)
+visit-requires c κs = (omega (arith, unbroken _ (c .before .before .before .before .before .before .before .before .before .before .before .before .before .before .before .before .before .before .before .pre) .made16), tally-unmet, none-met (c .before .before .before .before .before .before .before .before .before .before .before .before .before .before .before .before .before .before .before .args .key), refl)
 
 answer-requires : tie.Need-answer-requires
 answer-requires c κs = search needs
@@ -53,12 +58,12 @@ answer-requires c κs = search needs
 returns-2 : tie.Need-returns-2
 unfolding walkOf walkedFrom
 returns-2 c =
-    let start = c .before .before .before .before .before .before .before .before .before .before .before .before .before .before .before .before .before .before .before .before in
+    let start = c .before .before .before .before .before .before .before .before .before .before .before .before .before .before .before .before .before .before .before .before .before in
     let long = simp length-map at (start .good .0 .1 .1 .1 .1 .1 .1 .1 .1 .1 .1 .1 .1 .1 .1 .1 .1 .1 .0 .1 .0 .1) in
-    let past = taken (start .args .t1) long (c .before .before .before .before .before .before .before .before .before .before .before .before .all-closed .ensures) (c .before .before .before .before .before .before .before .before .before .before .before .all-held .ensures) (c .before .before .before .before .before .before .before .before .before .before .all-causes .ensures) (c .before .before .before .before .before .before .before .before .before .all-links .ensures) in
-    let low : start .args .key < 16 = omega (arith, unbroken _ (start .pre) .made16, c .before .before .before .before .before .before .before .before .before .before .before .before .before .before .before .before .before .before .before .if1 .left) in
+    let past = taken (start .args .t1) long (c .before .before .before .before .before .before .before .before .before .before .before .before .all-closed .ensures) (c .before .before .before .before .before .before .before .before .before .before .before .all-held .ensures) (c .before .before .before .before .before .before .before .before .before .before .all-causes .ensures) (c .before .before .before .before .before .before .before .before .before .all-links .ensures) (c .before .before .before .before .before .before .before .before .all-viewlinks .ensures) in
+    let low : start .args .key < 16 = omega (arith, unbroken _ (start .pre) .made16, c .before .before .before .before .before .before .before .before .before .before .before .before .before .before .before .before .before .before .before .before .if1 .left) in
     let e = c .before .visit .ensures .1 (start .args .t1) past 16 low in
-    simp (start .pre, lt-leb _ _ (c .before .before .before .before .before .before .before .before .before .before .before .before .before .before .before .before .before .before .before .if1 .left), add-zero, c .answer .ensures, e, c .before .before .link .ensures)
+    simp (start .pre, lt-leb _ _ (c .before .before .before .before .before .before .before .before .before .before .before .before .before .before .before .before .before .before .before .before .if1 .left), add-zero, c .answer .ensures, e, c .before .before .link .ensures)
 
 pub walk-unbroken-spec : {M : Type 1} → statement M
 walk-unbroken-spec =
@@ -73,6 +78,7 @@ walk-unbroken-spec =
     all-held-requires
     all-causes-requires
     all-links-requires
+    all-viewlinks-requires
     link-requires
     visit-requires
     answer-requires

@@ -37,8 +37,8 @@ held-links-fine-requires c κs = search needs
 both-requires-5 : tie.Need-both-requires-5
 both-requires-5 c κs = search needs
 
-viewlinks-fine-requires : tie.Need-viewlinks-fine-requires
-viewlinks-fine-requires c κs = search needs
+stores-fine-requires : tie.Need-stores-fine-requires
+stores-fine-requires c κs = search needs
 
 both-requires-6 : tie.Need-both-requires-6
 both-requires-6 c κs = search needs
@@ -59,11 +59,11 @@ returns c =
       c .before .before .before .before .before .before .before .updates-fine2 .ensures,
       c .before .before .before .before .before .all-contents-fine .ensures,
       c .before .before .before .held-links-fine .ensures,
-      c .before .viewlinks-fine .ensures,
+      c .before .stores-fine .ensures,
     )
 
 pub places-fine-spec : {M : Type 1} → statement M
 places-fine-spec =
     tie.close (tie.spec records-fine-requires records-fine-requires-2 both-requires updates-fine-requires
     both-requires-2 updates-fine-requires-2 both-requires-3 all-contents-fine-requires both-requires-4
-    held-links-fine-requires both-requires-5 viewlinks-fine-requires both-requires-6 returns)
+    held-links-fine-requires both-requires-5 stores-fine-requires both-requires-6 returns)

@@ -13,7 +13,7 @@ full c =
       homes = simp length-map at (c .good .0 .1 .1 .1 .1 .1 .0 .1 .0 .1);
       lists = simp length-map at (c .good .0 .1 .1 .1 .1 .1 .1 .0 .1 .0 .1);
       queues = simp length-map at (c .good .0 .1 .1 .1 .1 .1 .1 .1 .0 .1 .0 .1);
-      up = simp length-map at (c .good .0 .1 .1 .1 .1 .1 .1 .1 .1 .0 .1 .0 .1);
+      shelves = simp length-map at (c .good .0 .1 .1 .1 .1 .1 .1 .1 .1 .0 .1 .0 .1);
       messages = simp length-map at (c .good .0 .1 .1 .1 .1 .1 .1 .1 .1 .1 .0 .1 .0 .1);
       views = simp length-map at (c .good .0 .1 .1 .1 .1 .1 .1 .1 .1 .1 .1 .0 .1 .0 .1);
       repairs = simp length-map at (c .good .0 .1 .1 .1 .1 .1 .1 .1 .1 .1 .1 .1 .0 .1 .0 .1);
@@ -24,7 +24,6 @@ full c =
       uacks = simp length-map at (c .good .0 .1 .1 .1 .1 .1 .1 .1 .1 .1 .1 .1 .1 .1 .1 .1 .1 .0 .1 .0 .1);
       contents = simp length-map at (c .good .0 .1 .1 .1 .1 .1 .1 .1 .1 .1 .1 .1 .1 .1 .1 .1 .1 .1 .0 .1 .0 .1);
       links = simp length-map at (c .good .0 .1 .1 .1 .1 .1 .1 .1 .1 .1 .1 .1 .1 .1 .1 .1 .1 .1 .1 .0 .1 .0 .1);
-      viewlinks = simp length-map at (c .good .0 .1 .1 .1 .1 .1 .1 .1 .1 .1 .1 .1 .1 .1 .1 .1 .1 .1 .1 .1 .0 .1 .0 .1);
     }
 
 setup-fine-requires : tie.Need-setup-fine-requires
@@ -45,39 +44,31 @@ rows-fine-requires-2 c κs = search needs
 both-requires-3 : tie.Need-both-requires-3
 both-requires-3 c κs = search needs
 
-up-fine-requires : tie.Need-up-fine-requires
-up-fine-requires c κs = search needs
+jobs-fine-requires : tie.Need-jobs-fine-requires
+jobs-fine-requires c κs = search needs
 
 both-requires-4 : tie.Need-both-requires-4
 both-requires-4 c κs = search needs
 
-jobs-fine-requires : tie.Need-jobs-fine-requires
-jobs-fine-requires c κs = search needs
+places-fine-requires : tie.Need-places-fine-requires
+places-fine-requires c κs = search needs
 
 both-requires-5 : tie.Need-both-requires-5
 both-requires-5 c κs = search needs
 
-places-fine-requires : tie.Need-places-fine-requires
-places-fine-requires c κs = search needs
-
-both-requires-6 : tie.Need-both-requires-6
-both-requires-6 c κs = search needs
-
 returns : tie.Need-returns
 unfolding wholeOf
 returns c =
-    rw (full-slots _ (full (c .before .before .before .before .before .before .before .before .before .before .before .before .before .before .before .before))) (
+    rw (full-slots _ (full (c .before .before .before .before .before .before .before .before .before .before .before .before .before))) (
     simp (
-      c .both6 .ensures,
-      c .before .before .both5 .ensures,
-      c .before .before .before .before .both4 .ensures,
-      c .before .before .before .before .before .before .both3 .ensures,
-      c .before .before .before .before .before .before .before .before .both2 .ensures,
-      c .before .before .before .before .before .before .before .before .before .before .both .ensures,
-      c .before .before .before .before .before .before .before .before .before .before .before .setup-fine .ensures,
-      c .before .before .before .before .before .before .before .before .before .rows-fine .ensures,
-      c .before .before .before .before .before .before .before .rows-fine2 .ensures,
-      c .before .before .before .before .before .up-fine .ensures,
+      c .both5 .ensures,
+      c .before .before .both4 .ensures,
+      c .before .before .before .before .both3 .ensures,
+      c .before .before .before .before .before .before .both2 .ensures,
+      c .before .before .before .before .before .before .before .before .both .ensures,
+      c .before .before .before .before .before .before .before .before .before .setup-fine .ensures,
+      c .before .before .before .before .before .before .before .rows-fine .ensures,
+      c .before .before .before .before .before .rows-fine2 .ensures,
       c .before .before .before .jobs-fine .ensures,
       c .before .places-fine .ensures,
     ))
@@ -85,5 +76,4 @@ returns c =
 pub whole-spec : {M : Type 1} → statement M
 whole-spec =
     tie.close (tie.spec setup-fine-requires both-requires rows-fine-requires both-requires-2
-    rows-fine-requires-2 both-requires-3 up-fine-requires both-requires-4 jobs-fine-requires both-requires-5
-    places-fine-requires both-requires-6 returns)
+    rows-fine-requires-2 both-requires-3 jobs-fine-requires both-requires-4 places-fine-requires both-requires-5 returns)

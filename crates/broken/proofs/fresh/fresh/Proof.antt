@@ -1,4 +1,4 @@
--- Blanks in every slot, and the rows and flags that the loops made. Assumes nothing.
+-- Blanks in every slot, and the rows and stores that the loops made. Assumes nothing.
 use borrow.Author.Needs.{needs}
 use Rattle.protocol.specs.Setup.{freshWith}
 use Rattle.broken.proofs.fresh.fresh.Statement.{statement}
@@ -10,8 +10,8 @@ blank-queue-requires c κs = search needs
 no-message-requires : tie.Need-no-message-requires
 no-message-requires c κs = search needs
 
-blank-view-requires : tie.Need-blank-view-requires
-blank-view-requires c κs = search needs
+unset-view-requires : tie.Need-unset-view-requires
+unset-view-requires c κs = search needs
 
 no-repair-requires : tie.Need-no-repair-requires
 no-repair-requires c κs = search needs
@@ -28,8 +28,8 @@ rows-requires c κs = search needs
 rows-requires-2 : tie.Need-rows-requires-2
 rows-requires-2 c κs = search needs
 
-all-up-requires : tie.Need-all-up-requires
-all-up-requires c κs = search needs
+fresh-stores-requires : tie.Need-fresh-stores-requires
+fresh-stores-requires c κs = search needs
 
 returns : tie.Need-returns
 unfolding freshWith
@@ -37,16 +37,16 @@ returns c =
     simp (
       c .before .before .before .before .before .before .before .before .blank-queue .ensures,
       c .before .before .before .before .before .before .before .no-message .ensures,
-      c .before .before .before .before .before .before .blank-view .ensures,
+      c .before .before .before .before .before .before .unset-view .ensures,
       c .before .before .before .before .before .no-repair .ensures,
       c .before .before .before .before .no-entry .ensures,
       c .before .before .before .no-contents .ensures,
       c .before .before .rows .ensures,
       c .before .rows2 .ensures,
-      c .all-up .ensures,
+      c .fresh-stores .ensures,
     )
 
 pub fresh-spec : {M : Type 1} → statement M
 fresh-spec =
-    tie.close (tie.spec blank-queue-requires no-message-requires blank-view-requires no-repair-requires
-    no-entry-requires no-contents-requires rows-requires rows-requires-2 all-up-requires returns)
+    tie.close (tie.spec blank-queue-requires no-message-requires unset-view-requires no-repair-requires
+    no-entry-requires no-contents-requires rows-requires rows-requires-2 fresh-stores-requires returns)

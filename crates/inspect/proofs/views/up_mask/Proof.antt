@@ -5,16 +5,19 @@ use Rattle.inspect.proofs.views.up_mask.Statement.{statement}
 use Rattle.inspect.proofs.views.up_mask.Tie as tie
 
 abbrev Inv-loop : tie.InvT-loop
-Inv-loop up mask₀ p₀ mask p = Unit {0}
+Inv-loop shelves mask₀ p₀ mask p = Unit {0}
 
 abbrev μ-loop : tie.MeasureT-loop
-μ-loop up mask₀ p₀ mask p = 8 - p
+μ-loop shelves mask₀ p₀ mask p = 8 - p
 
 loop-holds : tie.Need-loop-holds Inv-loop μ-loop
 loop-holds c = search needs
 
-array-read-if1 : tie.Need-array-read-if1 Inv-loop μ-loop
-array-read-if1 c = search needs
+mul-s : tie.Need-mul-s Inv-loop μ-loop
+mul-s c = search needs
+
+array-copy-out-s : tie.Need-array-copy-out-s Inv-loop μ-loop
+array-copy-out-s c = search needs
 
 shl-mask : tie.Need-shl-mask Inv-loop μ-loop
 shl-mask c = search needs
@@ -38,7 +41,8 @@ up-mask-spec =
     Inv-loop
     μ-loop
     loop-holds
-    array-read-if1
+    mul-s
+    array-copy-out-s
     shl-mask
     add-p
     loop-less

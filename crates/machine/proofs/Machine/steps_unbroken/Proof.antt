@@ -25,7 +25,7 @@ abbrev μ-loop : tie.MeasureT-loop
 
 -- from where it is known what the step looks back at, the way to each place before
 abbrev store-at : tie.Joined2 Inv-loop μ-loop → tie.After-store-of Inv-loop μ-loop
-store-at c = c .before .before .before .before .before .before .before .before .before
+store-at c = c .before .before .before .before .before .before .before .before .before .before
 
 abbrev actor-at : tie.Joined2 Inv-loop μ-loop → tie.After-actor-of Inv-loop μ-loop
 actor-at c = store-at c .before
@@ -50,10 +50,10 @@ start-at c = turn-at c .before .before .before
 
 -- from where the slots are written, the way to that and to the rule
 abbrev joined-at : tie.After-made-of Inv-loop μ-loop → tie.Joined2 Inv-loop μ-loop
-joined-at c = c .before .before .before .before .before .before .before .before .before .before .before .before .before .before .before .before .before .before .before .before .before .before .before
+joined-at c = c .before .before .before .before .before .before .before .before .before .before .before .before .before .before .before .before .before .before .before .before .before
 
 abbrev rule-at : tie.After-made-of Inv-loop μ-loop → tie.After-rule Inv-loop μ-loop
-rule-at c = c .before .before .before .before .before .before .before .before .before .before .before
+rule-at c = c .before .before .before .before .before .before .before .before .before .before .before .before
 
 -- no number that the step names lies outside
 inside : (c : tie.Else1 Inv-loop μ-loop) → outsideOf ((c .before .before .before .before .loop .m) .stores) ((c .before .before .before .before .loop .m) .actors) ((c .before .before .before .before .loop .m) .made) (getD (c .before .before .before .before .before .before .before .args .t2) (c .before .before .before .before .loop .i) (Send 0 0 0 0 0)) ≡ false
@@ -155,12 +155,6 @@ mul-at c = search needs
 add-at : tie.Need-add-at Inv-loop μ-loop
 add-at c = search needs
 
-mul-over : tie.Need-mul-over Inv-loop μ-loop
-mul-over c = search needs
-
-add-over : tie.Need-add-over Inv-loop μ-loop
-add-over c = search needs
-
 mul-sender : tie.Need-mul-sender Inv-loop μ-loop
 mul-sender c = search needs
 
@@ -197,6 +191,12 @@ mul-other c = search needs
 element-copy-out-other : tie.Need-element-copy-out-other Inv-loop μ-loop
 element-copy-out-other c = search needs
 
+mul-shelf : tie.Need-mul-shelf Inv-loop μ-loop
+mul-shelf c = search needs
+
+element-copy-out-shelf : tie.Need-element-copy-out-shelf Inv-loop μ-loop
+element-copy-out-shelf c = search needs
+
 mul-contents : tie.Need-mul-contents Inv-loop μ-loop
 mul-contents c = search needs
 
@@ -218,41 +218,32 @@ look-back-requires c κs = search needs
 cast-m : tie.Need-cast-m Inv-loop μ-loop
 cast-m c = search needs
 
-element-copy-out-t52 : tie.Need-element-copy-out-t52 Inv-loop μ-loop
-element-copy-out-t52 c = search needs
+element-copy-out-t53 : tie.Need-element-copy-out-t53 Inv-loop μ-loop
+element-copy-out-t53 c = search needs
 
-element-copy-out-t50 : tie.Need-element-copy-out-t50 Inv-loop μ-loop
-element-copy-out-t50 c = search needs
+element-copy-out-t51 : tie.Need-element-copy-out-t51 Inv-loop μ-loop
+element-copy-out-t51 c = search needs
 
-cast-t45 : tie.Need-cast-t45 Inv-loop μ-loop
-cast-t45 c = search needs
+cast-t68 : tie.Need-cast-t68 Inv-loop μ-loop
+cast-t68 c = search needs
 
-element-copy-out-t93 : tie.Need-element-copy-out-t93 Inv-loop μ-loop
-element-copy-out-t93 c = rw (about-at (c .before .before .before) .about-of .ensures) (other-low _ (bounds _ (turn-at (c .before .before .before) .loop .inv .unbroken)) (getD (start-at (c .before .before .before) .args .t2) (turn-at (c .before .before .before) .loop .i) (Send 0 0 0 0 0)) (inside (inside-at (c .before .before .before))))
+element-copy-out-t97 : tie.Need-element-copy-out-t97 Inv-loop μ-loop
+element-copy-out-t97 c = rw (about-at (c .before .before .before) .about-of .ensures) (other-low _ (bounds _ (turn-at (c .before .before .before) .loop .inv .unbroken)) (getD (start-at (c .before .before .before) .args .t2) (turn-at (c .before .before .before) .loop .i) (Send 0 0 0 0 0)) (inside (inside-at (c .before .before .before))))
 
-element-copy-out-t44 : tie.Need-element-copy-out-t44 Inv-loop μ-loop
-element-copy-out-t44 c = search needs
+element-copy-out-t101 : tie.Need-element-copy-out-t101 Inv-loop μ-loop
+element-copy-out-t101 c = search needs
 
-element-copy-out-t99 : tie.Need-element-copy-out-t99 Inv-loop μ-loop
-element-copy-out-t99 c = search needs
+element-copy-out-t104 : tie.Need-element-copy-out-t104 Inv-loop μ-loop
+element-copy-out-t104 c = search needs
 
-element-copy-out-t102 : tie.Need-element-copy-out-t102 Inv-loop μ-loop
-element-copy-out-t102 c = search needs
-
-element-copy-out-t105 : tie.Need-element-copy-out-t105 Inv-loop μ-loop
-element-copy-out-t105 c = search needs
-
-element-copy-out-t108 : tie.Need-element-copy-out-t108 Inv-loop μ-loop
-element-copy-out-t108 c = search needs
-
-element-copy-out-t111 : tie.Need-element-copy-out-t111 Inv-loop μ-loop
-element-copy-out-t111 c = search needs
+element-copy-out-t107 : tie.Need-element-copy-out-t107 Inv-loop μ-loop
+element-copy-out-t107 c = search needs
 
 element-copy-out-made-of : tie.Need-element-copy-out-made-of Inv-loop μ-loop
 element-copy-out-made-of c = search needs
 
 rule-requires : tie.Need-rule-requires Inv-loop μ-loop
-rule-requires c κs = fits (found ((c .before .before .before .before .before .before .before .before .before .before .before))) (bounds _ (turn-at (c .before .before .before .before .before .before .before .before .before .before .before) .loop .inv .unbroken)) (inside (inside-at (c .before .before .before .before .before .before .before .before .before .before .before))) (view-at (c .before .before .before .before .before .before .before .before .before .before .before) .view-of .ensures .1) (actor-at (c .before .before .before .before .before .before .before .before .before .before .before) .actor-of .ensures .1) (store-at (c .before .before .before .before .before .before .before .before .before .before .before) .store-of .ensures .1)
+rule-requires c κs = fits (found ((c .before .before .before .before .before .before .before .before))) (bounds _ (turn-at (c .before .before .before .before .before .before .before .before) .loop .inv .unbroken)) (inside (inside-at (c .before .before .before .before .before .before .before .before))) (view-at (c .before .before .before .before .before .before .before .before) .view-of .ensures .1) (actor-at (c .before .before .before .before .before .before .before .before) .actor-of .ensures .1) (store-at (c .before .before .before .before .before .before .before .before) .store-of .ensures .1)
 
 made-of-requires : tie.Need-made-of-requires Inv-loop μ-loop
 made-of-requires c κs = search needs
@@ -299,6 +290,12 @@ mul-other-2 c = omega (arith, within c .0, within c .1, within c .2)
 element-set-from-other : tie.Need-element-set-from-other Inv-loop μ-loop
 element-set-from-other c = omega (arith, within c .0, within c .1, within c .2)
 
+mul-shelf-2 : tie.Need-mul-shelf-2 Inv-loop μ-loop
+mul-shelf-2 c = omega (arith, within c .0, within c .1, within c .2)
+
+element-set-from-shelf : tie.Need-element-set-from-shelf Inv-loop μ-loop
+element-set-from-shelf c = omega (arith, within c .0, within c .1, within c .2)
+
 element-write-m : tie.Need-element-write-m Inv-loop μ-loop
 element-write-m c = omega (arith, within c .0, within c .1, within c .2)
 
@@ -311,9 +308,6 @@ element-write-m-3 c = omega (arith, within c .0, within c .1, within c .2)
 element-write-m-4 : tie.Need-element-write-m-4 Inv-loop μ-loop
 element-write-m-4 c = omega (arith, within c .0, within c .1, within c .2)
 
-element-write-m-5 : tie.Need-element-write-m-5 Inv-loop μ-loop
-element-write-m-5 c = omega (arith, within c .0, within c .1, within c .2)
-
 mul-contents-2 : tie.Need-mul-contents-2 Inv-loop μ-loop
 mul-contents-2 c = omega (arith, within c .0, within c .1, within c .2)
 
@@ -325,12 +319,6 @@ mul-links-2 c = omega (arith, within c .0, within c .1, within c .2)
 
 element-set-from-links : tie.Need-element-set-from-links Inv-loop μ-loop
 element-set-from-links c = omega (arith, within c .0, within c .1, within c .2)
-
-element-write-m-6 : tie.Need-element-write-m-6 Inv-loop μ-loop
-element-write-m-6 c = omega (arith, within c .0, within c .1, within c .2)
-
-element-write-m-7 : tie.Need-element-write-m-7 Inv-loop μ-loop
-element-write-m-7 c = omega (arith, within c .0, within c .1, within c .2)
 
 add-room-2 : tie.Need-add-room-2 Inv-loop μ-loop
 add-room-2 c = omega (arith, start-at (joined-at c) .good .1 .1 .1 .0 .0, turn-at (joined-at c) .loop .inv .room, turn-at (joined-at c) .loop .inv .long, test-at (joined-at c) .loop-test .taken)
@@ -347,14 +335,14 @@ loop-less-2 c = omega (arith, test-at (joined-at c) .loop-test .taken)
 loop-again-2 : tie.Need-loop-again-2 Inv-loop μ-loop
 loop-again-2 c = rw (c .made-of .ensures) (take-step (turn-at (joined-at c) .loop .inv) (test-at (joined-at c) .loop-test .taken) _ (written (found (joined-at c)) (rule-at c .rule .result) (rule-at c .rule .ensures _ (stands (found (joined-at c)) (inside (inside-at (joined-at c)))))))
 
-sub-t149 : tie.Need-sub-t149 Inv-loop μ-loop
-sub-t149 c = omega (arith, c .before .loop .inv .some)
+sub-t141 : tie.Need-sub-t141 Inv-loop μ-loop
+sub-t141 c = omega (arith, c .before .loop .inv .some)
 
-add-t150 : tie.Need-add-t150 Inv-loop μ-loop
-add-t150 c = omega (arith, c .before .before .before .before .good .1 .1 .1 .0 .0, c .before .loop .inv .room, c .before .loop .inv .long, c .before .loop .inv .some)
+add-t142 : tie.Need-add-t142 Inv-loop μ-loop
+add-t142 c = omega (arith, c .before .before .before .before .good .1 .1 .1 .0 .0, c .before .loop .inv .room, c .before .loop .inv .long, c .before .loop .inv .some)
 
-slice-read-t152 : tie.Need-slice-read-t152 Inv-loop μ-loop
-slice-read-t152 c = omega (arith, c .before .before .loop .inv .room, c .before .before .loop .inv .some)
+slice-read-t144 : tie.Need-slice-read-t144 Inv-loop μ-loop
+slice-read-t144 c = omega (arith, c .before .before .loop .inv .room, c .before .before .loop .inv .some)
 
 same-length : tie.Need-same-length Inv-loop μ-loop
 same-length c = c .before .before .loop .inv .long
@@ -394,8 +382,6 @@ steps-unbroken-spec =
     add-o
     mul-at
     add-at
-    mul-over
-    add-over
     mul-sender
     add-sender
     mul-queue
@@ -408,6 +394,8 @@ steps-unbroken-spec =
     element-copy-out-facing
     mul-other
     element-copy-out-other
+    mul-shelf
+    element-copy-out-shelf
     mul-contents
     element-copy-out-contents
     mul-links
@@ -415,16 +403,13 @@ steps-unbroken-spec =
     no-past-requires
     look-back-requires
     cast-m
-    element-copy-out-t52
-    element-copy-out-t50
-    cast-t45
-    element-copy-out-t93
-    element-copy-out-t44
-    element-copy-out-t99
-    element-copy-out-t102
-    element-copy-out-t105
-    element-copy-out-t108
-    element-copy-out-t111
+    element-copy-out-t53
+    element-copy-out-t51
+    cast-t68
+    element-copy-out-t97
+    element-copy-out-t101
+    element-copy-out-t104
+    element-copy-out-t107
     element-copy-out-made-of
     rule-requires
     made-of-requires
@@ -442,24 +427,23 @@ steps-unbroken-spec =
     element-set-from-entry
     mul-other-2
     element-set-from-other
+    mul-shelf-2
+    element-set-from-shelf
     element-write-m
     element-write-m-2
     element-write-m-3
     element-write-m-4
-    element-write-m-5
     mul-contents-2
     element-set-from-contents
     mul-links-2
     element-set-from-links
-    element-write-m-6
-    element-write-m-7
     add-room-2
     slice-write-room-2
     add-i-2
     loop-less-2
     loop-again-2
-    sub-t149
-    add-t150
-    slice-read-t152
+    sub-t141
+    add-t142
+    slice-read-t144
     same-length
     returns)

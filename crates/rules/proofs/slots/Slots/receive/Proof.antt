@@ -22,14 +22,14 @@ cast-joined c = search needs
 joined-requires : tie.Need-joined-requires
 joined-requires c κs = c .before .before .before .before .before .pre .1 (c .before .before .if1 .left)
 
-awaited-view-requires : tie.Need-awaited-view-requires
-awaited-view-requires c κs = search needs
+unset-view-requires : tie.Need-unset-view-requires
+unset-view-requires c κs = search needs
 
 returns-2 : tie.Need-returns-2
 unfolding receiveNo receivedOf
-returns-2 c = λ m k h. grants h (simp (h .inside, rw (h .slots) at (eq-eqb _ _ (c .before .before .before .before .if1 .left)))) (simp (c .awaited-view .ensures, c .before .joined .ensures, h .slots, key-of k 1 (omega arith), role-of k 1 (omega arith), set-getD) (simp (set-getD, beside-key (m .views) k 1 (omega arith))))
+returns-2 c = λ m k h. grants h (simp (h .inside, rw (h .slots) at (eq-eqb _ _ (c .before .before .before .before .if1 .left)))) (simp (c .unset-view .ensures, c .before .joined .ensures, h .slots, key-of k 1 (omega arith), role-of k 1 (omega arith), set-getD) (simp (set-getD, beside-key (m .views) k 1 (omega arith))))
 
 pub receive-spec : {M : Type 1} → statement M
 receive-spec =
     tie.close
-    (tie.spec with-requires returns cast-joined joined-requires awaited-view-requires returns-2)
+    (tie.spec with-requires returns cast-joined joined-requires unset-view-requires returns-2)

@@ -42,7 +42,7 @@ enum-known-s-6 : tie.Need-enum-known-s-6
 enum-known-s-6 c = search needs
 
 take-record-requires : tie.Need-take-record-requires
-take-record-requires c κs = search needs
+take-record-requires c κs = let fits = c .before .before .before .pre in (fits .number32, fits .viewlink8)
 
 enum-known-s-7 : tie.Need-enum-known-s-7
 enum-known-s-7 c = search needs
@@ -72,7 +72,7 @@ enum-known-s-11 : tie.Need-enum-known-s-11
 enum-known-s-11 c = search needs
 
 take-update-requires : tie.Need-take-update-requires
-take-update-requires c κs = search needs
+take-update-requires c κs = let fits = c .before .before .before .pre in (fits .number32, fits .own8)
 
 enum-known-s-12 : tie.Need-enum-known-s-12
 enum-known-s-12 c = search needs

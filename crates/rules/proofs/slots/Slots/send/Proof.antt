@@ -59,8 +59,8 @@ joined-requires c κs = c .before .before .before .before .before .before .befor
 sent-view-requires : tie.Need-sent-view-requires
 sent-view-requires c κs = search needs
 
-awaited-view-requires : tie.Need-awaited-view-requires
-awaited-view-requires c κs = search needs
+unset-view-requires : tie.Need-unset-view-requires
+unset-view-requires c κs = search needs
 
 add-x : tie.Need-add-x
 add-x c = search needs
@@ -78,7 +78,7 @@ returns-5 c = λ m h.
     = h .slots ∙ (λ i. slotsAt m about (x .from) (next i) (x .own) (pastAbout m about (next i))) in
     grants h
     (simp (h .inside, ne-eqb _ _ (c .before .before .before .before .before .before .before .before .before .before .before .before .if1 .left), lt-leb _ _ low, rw (h .slots) at (eq-eqb _ _ (c .before .before .before .before .before .before .before .before .if3 .left)), rw (h .slots) at (c .before .before .before .before .before .if4 .left)))
-    (simp (c .before .awaited-view .ensures, c .before .before .sent-view .ensures, c .before .before .before .joined .ensures, lt-ltb _ _ low, add-zero) (simp (stood, set-getD)
+    (simp (c .before .unset-view .ensures, c .before .before .sent-view .ensures, c .before .before .before .joined .ensures, lt-ltb _ _ low, add-zero) (simp (stood, set-getD)
     (λ i.
     let views = set (set (m .views) (m .made * 2) (sentView m (x .from) (x .to) (x .own) (x .word) (x .causes))) (half i * 2 + (1 - even i)) (awaitedView (x .to)) in
     withMade (withMessage (withQueue (withViews m views) (x .from) (joined (queue m (x .from)) (m .made * 2))) (half i) (record { flying = true; own = x .own; word = x .word })) (m .made + 1))))
@@ -99,6 +99,6 @@ send-spec =
     mul-joined
     joined-requires
     sent-view-requires
-    awaited-view-requires
+    unset-view-requires
     add-x
     returns-5)

@@ -1,10 +1,15 @@
 -- `take_record` meets its contract: each piece that is written is what its function promises. Assumes nothing.
+use Prim.Native.Nat.{_-_}
 use mathlib.Core.Path.{refl}
 use borrow.Author.Tests.{eq-eqb, ne-eqb}
+use lib.ListN.{getD}
 use lib.Seq.{set-getD}
-use Rattle.protocol.specs.TakeRecord.{takeRecordNo, recordTaken}
+use Rattle.protocol.specs.Slots.{number, linksPlace, noLinks, view, contents, viewlink, recordCopies, ackCopies}
+use Rattle.protocol.specs.Writes.{withRecordCopies, withAckCopies, withContentsAt, withCauseLinks, withViewlink}
+use Rattle.protocol.specs.Rule.{more}
+use Rattle.protocol.specs.TakeRecord.{takeRecordNo, writtenContents, writtenLinks, writtenViewlink, recordTaken}
 use Rattle.rules.proofs.Inside.{role-of-place}
-use Rattle.rules.proofs.Standing.{refuses, grants, key-of, role-of, beside-place}
+use Rattle.rules.proofs.Standing.{refuses, grants, key-of, role-of}
 use borrow.Author.Needs.{needs}
 use Rattle.rules.proofs.slots.Slots.take_record.Statement.{statement}
 use Rattle.rules.proofs.slots.Slots.take_record.Tie as tie
@@ -32,18 +37,34 @@ written-contents-requires c κs = search needs
 written-links-requires : tie.Need-written-links-requires
 written-links-requires c κs = search needs
 
+element-copy-out-written-viewlink : tie.Need-element-copy-out-written-viewlink
+element-copy-out-written-viewlink c = search needs
+
 written-viewlink-requires : tie.Need-written-viewlink-requires
 written-viewlink-requires c κs = search needs
 
 one-more-requires : tie.Need-one-more-requires
 one-more-requires c κs = search needs
 
+element-write-s : tie.Need-element-write-s
+element-write-s c = search needs
+
 sub-x : tie.Need-sub-x
 sub-x c = search needs
 
 returns-3 : tie.Need-returns-3
 unfolding takeRecordNo recordTaken
-returns-3 c = λ m p k role h. grants h (simp (h .inside, rw (h .slots) at (c .before .before .before .before .before .before .before .before .before .before .if1 .left), rw (h .slots) at (ne-eqb _ _ (c .before .before .before .before .before .before .before .before .if2 .left)))) (simp (c .before .one-more .ensures, c .before .before .written-viewlink .ensures, c .before .before .before .written-links .ensures, c .before .before .before .before .written-contents .ensures, h .slots, key-of k role (role-of-place (m .stores) (m .made) p k role (h .inside)), role-of k role (role-of-place (m .stores) (m .made) p k role (h .inside)), set-getD) (simp (beside-place (m .viewlinks) p k role (role-of-place (m .stores) (m .made) p k role (h .inside)))))
+returns-3 c = λ m p k role h.
+    let low = role-of-place (m .stores) (m .made) p k role (h .inside) in
+    let v = number k role in
+    grants h (simp (h .inside, rw (h .slots) at (c .before .before .before .before .before .before .before .before .before .before .if1 .left), rw (h .slots) at (ne-eqb _ _ (c .before .before .before .before .before .before .before .before .if2 .left))))
+    (simp (c .before .one-more .ensures, c .before .before .written-viewlink .ensures, c .before .before .before .before .written-links .ensures, c .before .before .before .before .before .written-contents .ensures, h .slots, set-getD)
+    (λ i.
+    withViewlink
+    (withCauseLinks
+    (withContentsAt (withAckCopies (withRecordCopies m p v (recordCopies m p v - 1)) p v (more (ackCopies m p v))) p v (writtenContents (contents m p v) (view m v)))
+    p (key-of k role low i) (writtenLinks (role-of k role low i) (contents m p v) (view m v) (getD (m .links) (linksPlace p (key-of k role low i)) noLinks)))
+    p v (writtenViewlink (viewlink m p v) (view m v))))
 
 pub take-record-spec : {M : Type 1} → statement M
 take-record-spec =
@@ -56,7 +77,9 @@ take-record-spec =
     cast-role
     written-contents-requires
     written-links-requires
+    element-copy-out-written-viewlink
     written-viewlink-requires
     one-more-requires
+    element-write-s
     sub-x
     returns-3)

@@ -1,7 +1,11 @@
 -- `take_update` meets its contract: each guard gives the value of its test. Assumes nothing.
+use Prim.Native.Nat.{_+_, _-_}
 use mathlib.Core.Path.{refl}
 use borrow.Author.Tests.{eq-eqb, ne-eqb}
 use lib.Seq.{set-getD}
+use Rattle.protocol.specs.Slots.{number, entry, updateCopies, uackCopies}
+use Rattle.protocol.specs.Writes.{withUpdateCopies, withUackCopies, withViewlink}
+use Rattle.protocol.specs.Rule.{more}
 use Rattle.protocol.specs.TakeUpdate.{takeUpdateNo, updateTaken}
 use Rattle.rules.proofs.Inside.{role-of-place}
 use Rattle.rules.proofs.Standing.{refuses, grants, key-of, role-of}
@@ -23,18 +27,35 @@ returns-2 : tie.Need-returns-2
 unfolding takeUpdateNo
 returns-2 c = λ m p k role h. simp (c .with2 .ensures) (refuses h 7 refl (simp (h .inside, rw (h .slots) at (c .before .before .before .if1 .left), rw (h .slots) at (eq-eqb _ _ (c .before .if2 .taken)))))
 
+mul-o : tie.Need-mul-o
+mul-o c = search needs
+
+sub-o : tie.Need-sub-o
+sub-o c = search needs
+
+add-o : tie.Need-add-o
+add-o c = search needs
+
 one-more-requires : tie.Need-one-more-requires
 one-more-requires c κs = search needs
+
+add-s : tie.Need-add-s
+add-s c = search needs
+
+element-write-s : tie.Need-element-write-s
+element-write-s c = search needs
 
 sub-x : tie.Need-sub-x
 sub-x c = search needs
 
-add-x : tie.Need-add-x
-add-x c = search needs
-
 returns-3 : tie.Need-returns-3
 unfolding takeUpdateNo updateTaken
-returns-3 c = λ m p k role h. grants h (simp (h .inside, rw (h .slots) at (c .before .before .before .before .before .before .if1 .left), rw (h .slots) at (ne-eqb _ _ (c .before .before .before .before .if2 .left)))) (simp (c .before .before .one-more .ensures, h .slots, key-of k role (role-of-place (m .stores) (m .made) p k role (h .inside)), role-of k role (role-of-place (m .stores) (m .made) p k role (h .inside)), set-getD) refl)
+returns-3 c = λ m p k role h.
+    let low = role-of-place (m .stores) (m .made) p k role (h .inside) in
+    let v = number k role in
+    grants h (simp (h .inside, rw (h .slots) at (c .before .before .before .before .before .before .if1 .left), rw (h .slots) at (ne-eqb _ _ (c .before .before .before .before .if2 .left))))
+    (simp (c .before .before .one-more .ensures, h .slots, set-getD)
+    (λ i. withUackCopies (withViewlink (withUpdateCopies m p v (updateCopies m p v - 1)) p (number (key-of k role low i) (1 - role-of k role low i)) (entry m v .own + 1)) p v (more (uackCopies m p v))))
 
 pub take-update-spec : {M : Type 1} → statement M
 take-update-spec =
@@ -44,7 +65,11 @@ take-update-spec =
     returns
     with-requires-2
     returns-2
+    mul-o
+    sub-o
+    add-o
     one-more-requires
+    add-s
+    element-write-s
     sub-x
-    add-x
     returns-3)

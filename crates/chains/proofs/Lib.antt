@@ -1,0 +1,5 @@
+pub mod Lines
+pub mod Stated
+pub mod Walks
+pub mod Lengths
+pub mod Laws

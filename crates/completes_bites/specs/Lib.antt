@@ -1,0 +1,4 @@
+pub mod Setting
+pub mod Variants
+pub mod Witnesses
+pub mod Wrong

@@ -1,0 +1,3 @@
+mod Kit
+mod Outcomes
+mod Search
