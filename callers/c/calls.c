@@ -84,8 +84,31 @@ static void refusals(void) {
   EXPECT(nothing_written());
 }
 
+/* Weights, a scaler and a forecast of bundle 7, all at rest; the scaler's bundle is one byte of the book. */
+static void pairs(void) {
+  static uint8_t pair[] = {
+    3, 2, 0, 5, 1, 6, 36, 0, 1, 0, 1, 0, 7, 0, 0, 1, 0, 0, 1, 0, 1, 0, 7, 0, 0, 2, 0, 0, 2, 0, 2, 1, 1,
+    1, 0, 1, 7, 0, 0, 3, 3, 0, 2, 2, 3, 0, 4, 0, 6, 0, 0, 0, 7, 0, 0, 0, 8, 0, 3, 0, 4, 0, 6, 0, 1, 0,
+    7, 0, 1, 0, 8, 0, 3, 0, 4, 0, 6, 0, 2, 1, 7, 0, 2, 1, 8, 0, 3, 1, 4, 1, 6, 1, 0, 1, 7, 1, 0, 1, 8,
+    1, 3, 1, 4, 1, 6, 1, 1, 1, 7, 1, 1, 1, 8, 1, 3, 1, 4, 1, 6, 1, 2, 0, 7, 1, 2, 0, 8, 1};
+  uint8_t passes = LENT;
+  EXPECT(tautlichen_pair(pair, sizeof pair, 1, 2, &passes) == 0 && passes == 1);
+  EXPECT(tautlichen_pair(pair, sizeof pair, 2, 2, &passes) == 0 && passes == 1);
+  pair[22] = 8;
+  EXPECT(tautlichen_pair(pair, sizeof pair, 1, 2, &passes) == 0 && passes == 0);
+  EXPECT(tautlichen_pair(pair, sizeof pair, 2, 2, &passes) == 0 && passes == 0);
+  passes = LENT;
+  EXPECT(tautlichen_pair(pair, sizeof pair - 1, 3, 2, &passes) == 19);
+  EXPECT(tautlichen_pair(pair, sizeof pair - 1, 1, 2, &passes) == 10);
+  EXPECT(tautlichen_pair(pair, sizeof pair, 1, 3, &passes) == 2);
+  EXPECT(tautlichen_pair(BOOK, sizeof BOOK, 1, 0, &passes) == 13);
+  EXPECT(tautlichen_pair(pair, sizeof pair, 1, 0, &passes) == 20);
+  EXPECT(passes == LENT);
+}
+
 int main(void) {
   calls();
   refusals();
+  pairs();
   return failed;
 }

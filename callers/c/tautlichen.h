@@ -53,6 +53,13 @@ uint8_t tautlichen_walk(const uint8_t *book, size_t book_len, uint8_t key, uint8
  * 10, 11, then 2 and 13 as the walk, then 14: the document is longer than `text`. */
 uint8_t tautlichen_lineage(const uint8_t *book, size_t book_len, uint8_t key, uint8_t *text, size_t text_len, uint16_t *len);
 
+/* Checks the pair of a forecast in the machine after a book, by rule 1 (the old registry's) or 2 (the new one's): 1 into
+ * `*passes` where weights and scaler belong together, else 0.
+ *
+ * 19 another rule, then 10, 11, then 2: no such key, 13: the walk meets an interaction that isn't closed, 20: the key's word is
+ * no forecast. */
+uint8_t tautlichen_pair(const uint8_t *book, size_t book_len, uint8_t rule, uint8_t key, uint8_t *passes);
+
 #ifdef __cplusplus
 }
 #endif

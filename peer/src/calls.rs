@@ -2,6 +2,8 @@
 
 use crate::book::{self, MAX_STEPS};
 use crate::compare::Words;
+use crate::machine::{Machine, View};
+use crate::pair::{kind, FORECAST};
 use crate::random::Random;
 
 /// Words that aren't keys, or are none of a machine.
@@ -10,6 +12,9 @@ const WRONG_KEYS: [&str; 10] =
 
 /// Words that don't ask for a drain.
 const NOT_DRAINED: [&str; 4] = ["", "Drained", "drained ", "drain"];
+
+/// Words that are no rule.
+const WRONG_RULES: [&str; 8] = ["", "0", "3", "01", "+1", "12", "258", "one"];
 
 /// The highest key and another, drained and not, and a call that is wrong.
 pub fn of_lineage(seed: u64, input: &[u8]) -> Vec<Words> {
@@ -24,6 +29,31 @@ pub fn of_lineage(seed: u64, input: &[u8]) -> Vec<Words> {
         words(&[&other]),
         wrong_call(&mut random, &highest),
     ]
+}
+
+/// The last forecast by both rules, drained and not, another key, and a call that is wrong.
+pub fn of_pair(seed: u64, input: &[u8]) -> Vec<Words> {
+    let mut random = Random::new(seed.wrapping_mul(3));
+    let machine = book::run(input, &mut [0; MAX_STEPS]).unwrap_or_default();
+    let forecast = last_forecast(&machine).unwrap_or(0).to_string();
+    let other = random.between(0, usize::from(machine.interaction_count) + 1).to_string();
+    let rule = if random.one_in(2) { "1" } else { "2" };
+    let mut calls = vec![
+        words(&["1", &forecast, "drained"]),
+        words(&["2", &forecast, "drained"]),
+        words(&["1", &forecast]),
+        words(&["2", &forecast]),
+        words(&[rule, &other, "drained"]),
+    ];
+    let wrong_rule = WRONG_RULES[random.below(WRONG_RULES.len())];
+    let rule = if random.one_in(3) { wrong_rule } else { rule };
+    calls.push([words(&[rule]), wrong_call(&mut random, &forecast)].concat());
+    calls
+}
+
+fn last_forecast(machine: &Machine) -> Option<u8> {
+    let is_forecast = |key: &u8| kind(machine.record(View::sender(*key)).data) == FORECAST;
+    (0..machine.interaction_count).rev().find(is_forecast)
 }
 
 fn wrong_call(random: &mut Random, key: &str) -> Words {

@@ -12,8 +12,9 @@ use std::thread;
 
 use crate::book::Book;
 use crate::calls;
-use crate::generate::generate;
+use crate::generate::{generate, generate_pairs};
 use crate::lineage::lineage;
+use crate::pair::pair;
 use crate::prep;
 use crate::programs;
 use crate::shrink::{shrink_bytes, shrink_messages};
@@ -38,6 +39,9 @@ pub const BOOKS: Inputs = Inputs {
     shrink: shrink_bytes,
     show: |bytes| Book::read(bytes).ok().map(|book| text::write(&book)),
 };
+
+/// Books about weights, scalers and forecasts.
+pub const PAIR_BOOKS: Inputs = Inputs { generate: generate_pairs, ..BOOKS };
 
 pub const MESSAGE_FILES: Inputs = Inputs {
     name: "message file",
@@ -84,6 +88,10 @@ impl Program {
 
     pub fn lineage(path: PathBuf) -> Program {
         Program { name: "lineage", path, calls: calls::of_lineage, expected: lineage }
+    }
+
+    pub fn pair(path: PathBuf) -> Program {
+        Program { name: "pair", path, calls: calls::of_pair, expected: pair }
     }
 
     /// What the program prints for an input, and how it died if it did.

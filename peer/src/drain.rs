@@ -23,7 +23,7 @@ impl Machine {
     }
 
     /// The first step that applies, in the order (a) to (d).
-    fn next_of_drain(&self) -> Option<Step> {
+    pub fn next_of_drain(&self) -> Option<Step> {
         self.next_receipt()
             .or_else(|| self.next_of_queues())
             .or_else(|| self.next_repair())

@@ -97,9 +97,12 @@ pub fn reason(machine: &Machine, step: Step, refusal: Refusal) -> String {
         Refusal::NotListed => not_listed(machine, step),
         Refusal::NotReceived => not_received(machine, step),
         Refusal::Broken => "the machine value is broken".to_string(),
-        Refusal::Malformed | Refusal::IllegalSetup | Refusal::ShortBuffer | Refusal::Open => {
-            unreachable!("no step is refused so")
-        }
+        Refusal::Malformed
+        | Refusal::IllegalSetup
+        | Refusal::ShortBuffer
+        | Refusal::Open
+        | Refusal::NoSuchRule
+        | Refusal::NotForecast => unreachable!("no step is refused so"),
     }
 }
 

@@ -4,6 +4,7 @@
 mod damage;
 mod draft;
 mod enabled;
+mod pairs;
 mod stories;
 
 use crate::random::Random;
@@ -23,6 +24,31 @@ pub fn generate(seed: u64) -> Vec<u8> {
         11..=14 => draft.near_misses(),
         15 | 16 => draft.wild(),
         17 => draft.illegal_setup(),
+        _ => return draft.damaged(),
+    }
+    draft.book.bytes()
+}
+
+/// The book of a seed that is about weights, scalers and forecasts.
+pub fn generate_pairs(seed: u64) -> Vec<u8> {
+    const STYLES: u64 = 10;
+    let mut draft = Draft::about_pairs(Random::new(seed));
+    let turn = seed / STYLES;
+    match seed % STYLES {
+        0..=5 => {
+            draft.pair_story(turn);
+            draft.close();
+        }
+        6 => {
+            draft.pair_story(turn);
+            draft.run_of_random_length();
+        }
+        7 => {
+            draft.run_of_random_length();
+            draft.close();
+        }
+        8 => draft.near_misses(),
+        _ if turn.is_multiple_of(2) => draft.illegal_setup(),
         _ => return draft.damaged(),
     }
     draft.book.bytes()

@@ -1,7 +1,7 @@
 //! A second recorder, written from the documents alone, to test the proved one against.
 //!
 //! Data flows one way: bytes, [`book`], [`step`]s, [`machine`], what the [`programs`] print.
-//! Above them a walk is told as its [`lineage`].
+//! Above them a walk is told as its [`lineage`], and checked by the [`pair`] rule.
 //! Beside that stand the [`text`] form of a book, its run [`explain`]ed in words, the [`check`]
 //! of a folder of cases, the seeded [`generate`]d books with their [`coverage`], and the
 //! [`compare`] that runs them through other programs.
@@ -22,6 +22,8 @@ pub mod explain;
 pub mod generate;
 pub mod lineage;
 pub mod machine;
+pub mod pair;
+pub mod pair_coverage;
 pub mod prep;
 pub mod programs;
 pub mod random;

@@ -10,11 +10,13 @@ use std::process::ExitCode;
 
 use peer::book::Book;
 use peer::check::{check, Programs};
-use peer::compare::{compare, Inputs, Program, BOOKS, MESSAGE_FILES};
+use peer::compare::{compare, Inputs, Program, BOOKS, MESSAGE_FILES, PAIR_BOOKS};
 use peer::coverage::Coverage;
 use peer::explain::explain;
-use peer::generate::generate;
+use peer::generate::{generate, generate_pairs};
 use peer::lineage::lineage;
+use peer::pair::pair;
+use peer::pair_coverage::PairCoverage;
 use peer::prep;
 use peer::programs::{self, MAX_INPUT};
 use peer::text;
@@ -31,6 +33,10 @@ const USAGE: &str = "usage:
   peer compare FROM COUNT RECORDER INSPECT    the books of some seeds through two programs
   peer lineage KEY [drained]                  a book on standard input, a walk as PROV-N out
   peer compare-lineage FROM COUNT LINEAGE     the books of some seeds through a program
+  peer pair RULE KEY [drained]                a book on standard input, the pair rule's word out
+  peer generate-pair SEED                     the book of a seed that is about pairs out
+  peer coverage-pair FROM COUNT               what these books and their calls cover
+  peer compare-pair FROM COUNT PAIR           these books through a program
   peer prep                                   messages on standard input, answers and tables out
   peer generate-prep SEED                     the message file of a seed out
   peer coverage-prep FROM COUNT               what the message files of some seeds cover
@@ -71,6 +77,14 @@ fn run(arguments: &[&str]) -> Outcome {
         ["lineage", ref words @ ..] => print(lineage(&owned(words), &program_input()?).as_bytes()),
         ["compare-lineage", from, count, program] => {
             compare_seeds(seeds(from, count)?, &BOOKS, &[Program::lineage(program.into())])
+        }
+        ["pair", ref words @ ..] => print(pair(&owned(words), &program_input()?).as_bytes()),
+        ["generate-pair", seed] => print(&generate_pairs(number(seed)?)),
+        ["coverage-pair", from, count] => {
+            print(PairCoverage::of_seeds(seeds(from, count)?).to_string().as_bytes())
+        }
+        ["compare-pair", from, count, program] => {
+            compare_seeds(seeds(from, count)?, &PAIR_BOOKS, &[Program::pair(program.into())])
         }
         ["prep"] => print(prep::program::prep(&program_input()?).as_bytes()),
         ["generate-prep", seed] => print(&prep::generate::generate(number(seed)?)),

@@ -1,4 +1,4 @@
-//! The refusal numbers of document 01.
+//! The refusal numbers of document 01, and those that document 02 adds to what books are about.
 
 /// Why a call was refused. Zero, taken, is `Ok`.
 #[derive(Clone, Copy, PartialEq, Eq, Debug)]
@@ -30,10 +30,14 @@ pub enum Refusal {
     ShortBuffer = 12,
     /// The walk meets an open interaction.
     Open = 13,
+    /// A pair rule other than 1 or 2.
+    NoSuchRule = 19,
+    /// The key's word isn't a forecast.
+    NotForecast = 20,
 }
 
 impl Refusal {
-    /// One more than the highest number, for tables indexed by the answer.
+    /// One more than the highest number of document 01, for tables indexed by the answer.
     pub const NUMBERS: usize = 14;
 
     /// Refuses if the condition holds, so that a rule reads as its list of refusals.

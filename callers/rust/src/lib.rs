@@ -201,3 +201,29 @@ pub fn lineage<'t>(book: &[u8], key: u8, text: &'t mut [u8]) -> Result<&'t [u8],
     })?;
     Ok(&text[..len.into()])
 }
+
+mod linked_pair {
+    extern "C" {
+        pub fn tautlichen_pair(
+            book: *const u8,
+            book_len: usize,
+            rule: u8,
+            key: u8,
+            passes: *mut u8,
+        ) -> u8;
+    }
+}
+
+/// Checks the pair of a forecast in the machine after a book, by rule 1 (the old registry's) or 2 (the new one's): whether its
+/// weights and its scaler belong together.
+///
+/// Refused with 19 for another rule, then 10 and 11 as [`run`], then 2 and 13 as [`walk`], then 20 where the key's word is no
+/// forecast.
+pub fn pair(book: &[u8], rule: u8, key: u8) -> Result<bool, Refusal> {
+    let mut passes = 0;
+    // Safety: the pointer comes with its slice's length, and `passes` is a local.
+    done(unsafe {
+        linked_pair::tautlichen_pair(book.as_ptr(), book.len(), rule, key, &mut passes)
+    })?;
+    Ok(passes == 1)
+}

@@ -1,4 +1,4 @@
-//! The five calls: document 01's example and its marked run W12, and what each refusal leaves.
+//! The six calls: document 01's example and its marked run W12, and what each refusal leaves.
 
 use tautlichen::{drain, lineage, list, run, walk, Drained, Refusal, Walked, KEYS, PROVN, TEXT};
 
@@ -132,4 +132,38 @@ fn short_buffers_stay() {
         Ok(30),
         "a buffer of just the length"
     );
+}
+
+/// Weights of bundle 7, a scaler and a forecast of bundle 7 made of both, all at rest.
+fn forecast(scaler: u8) -> Vec<u8> {
+    let mut steps: Vec<Vec<u8>> = vec![
+        vec![1, 0, 1, 0, 7, 0, 0, 1, 0, 0],
+        vec![1, 0, 1, 0, scaler, 0, 0, 2, 0, 0],
+        vec![2, 0],
+        vec![2, 1],
+        vec![1, 1, 0, 1, 7, 0, 0, 3, 3, 0],
+        vec![2, 2],
+    ];
+    for (key, role) in [(0, 0), (1, 0), (2, 1)] {
+        steps.extend(filed(0, 0, key, role));
+    }
+    for (key, role) in [(0, 1), (1, 1), (2, 0)] {
+        steps.extend(filed(1, 1, key, role));
+    }
+    book(&steps.iter().map(Vec::as_slice).collect::<Vec<_>>())
+}
+
+#[test]
+fn the_pair_rule() {
+    use tautlichen::pair;
+    for rule in [1, 2] {
+        assert_eq!(pair(&forecast(7), rule, 2), Ok(true));
+        assert_eq!(pair(&forecast(8), rule, 2), Ok(false), "the scaler of another bundle");
+    }
+    let cut = &forecast(7)[1..];
+    assert_eq!(pair(cut, 3, 2), Err(Refusal(19)), "19 before 10");
+    assert_eq!(pair(cut, 1, 2), Err(Refusal(10)));
+    assert_eq!(pair(&forecast(7), 1, 3), Err(Refusal(2)));
+    assert_eq!(pair(&book(&[SEND]), 1, 0), Err(Refusal(13)), "13 before 20");
+    assert_eq!(pair(&forecast(7), 1, 0), Err(Refusal(20)));
 }

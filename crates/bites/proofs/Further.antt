@@ -86,10 +86,10 @@ breaks-closed rules steps further w x c o =
     record { closed = closed; unclosed = unclosed; refuted = λ law. true≢false (sym (law M legal-M steps further 0 closed) ∙ unclosed) }
 
 -- 6: the drain of a run, computed likewise
-abbrev ruledRun : List Step → State
+abbrev pub ruledRun : List Step → State
 ruledRun steps = ranRuled right (freshOf M) steps
 
-whole : (steps : List Step) → brokenOf (ruledRun steps) ≡ false
+pub whole : (steps : List Step) → brokenOf (ruledRun steps) ≡ false
 whole steps = subst (λ (m : State). brokenOf m ≡ false) (after-ruled M legal-M steps) (reached M legal-M steps .fine)
 
 breaks-drain : (steps : List Step) → allUp (ruledRun steps) ≡ true → 0 < ruledRun steps .made → closedOf (courseRuled (ruledRun steps .made * 18 - 1) (ruledRun steps) .state) 0 ≡ false → BreaksDrain shortDrain steps
@@ -103,12 +103,12 @@ breaks-drain steps u h c =
     record { up = up; made = made; unclosed = unclosed; refuted = λ law. true≢false (sym (law M legal-M steps up .closes 0 made) ∙ unclosed) }
 
 -- 7: the walk of a run, and of a drained one
-drained-run : (steps : List Step) → allUp (after M steps) ≡ true → drainOf (after M steps) .state ≡ ruledRun (steps ++ stepsRuled (ruledRun steps))
+pub drained-run : (steps : List Step) → allUp (after M steps) ≡ true → drainOf (after M steps) .state ≡ ruledRun (steps ++ stepsRuled (ruledRun steps))
 drained-run steps up =
     the-drain M legal-M steps up .run ∙ ap (λ (l : List Step). after M (steps ++ l)) (steps-ruled M legal-M steps)
     ∙ after-ruled M legal-M (steps ++ stepsRuled (ruledRun steps))
 
-caused : (steps : List Step) (k j : ℕ) → k < ruledRun steps .made → j < 16 → bit (view (ruledRun steps) (number k 0) .causes) j ≡ true → SentCause M steps k j
+pub caused : (steps : List Step) (k j : ℕ) → k < ruledRun steps .made → j < 16 → bit (view (ruledRun steps) (number k 0) .causes) j ≡ true → SentCause M steps k j
 caused steps k j h l b =
     let run = after-ruled M legal-M steps in
     let hk : k < after M steps .made = rw run h in

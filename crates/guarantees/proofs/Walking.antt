@@ -226,11 +226,11 @@ module _ (u : Setup) (l : Legal u) (steps : List Step) where
   to-sent k i h Reach.here = SentReach.here
   to-sent k i h (Reach.by {j = j} s r) = SentReach.by (set-sent k j h s) (to-sent j i (lower k j h s) r)
 
-  of-sent : (k i : ℕ) → k < after u steps .made → SentReach u steps k i → Reach (after u steps) k i
+  pub of-sent : (k i : ℕ) → k < after u steps .made → SentReach u steps k i → Reach (after u steps) k i
   of-sent k i h SentReach.here = Reach.here
   of-sent k i h (SentReach.by {j = j} s r) = let d = sent-set k j h s in Reach.by d (of-sent j i (lower k j h d) r)
 
-  reach-made : (k i : ℕ) → k < after u steps .made → Reach (after u steps) k i → i < after u steps .made
+  pub reach-made : (k i : ℕ) → k < after u steps .made → Reach (after u steps) k i → i < after u steps .made
   reach-made k i h Reach.here = h
   reach-made k i h (Reach.by {j = j} s r) = reach-made j i (lower k j h s) r
 
@@ -262,13 +262,13 @@ module _ (u : Setup) (l : Legal u) (steps further : List Step) where
   below : (k j : ℕ) → k < after u steps .made → SentCause u steps k j → j < after u steps .made
   below k j h s = lower u l steps k j h (sent-set u l steps k j h s)
 
-  reach-on : (k i : ℕ) → k < after u steps .made → SentReach u steps k i → SentReach u (steps ++ further) k i
+  pub reach-on : (k i : ℕ) → k < after u steps .made → SentReach u steps k i → SentReach u (steps ++ further) k i
   reach-on k i h SentReach.here = SentReach.here
   reach-on k i h (SentReach.by {j = j} s r) =
       let d : SentCause u (steps ++ further) k j = record { low = s .low; set = rw (same-causes k h) (s .set) } in
       SentReach.by d (reach-on j i (below k j h s) r)
 
-  reach-off : (k i : ℕ) → k < after u steps .made → SentReach u (steps ++ further) k i → SentReach u steps k i
+  pub reach-off : (k i : ℕ) → k < after u steps .made → SentReach u (steps ++ further) k i → SentReach u steps k i
   reach-off k i h SentReach.here = SentReach.here
   reach-off k i h (SentReach.by {j = j} s r) =
       let d : SentCause u steps k j = record { low = s .low; set = rw (← same-causes k h) (s .set) } in

@@ -24,4 +24,5 @@ every-export =
       walk-lookups = λ book key keys lookups. determined _ _ _;
       lineage-text = λ book key text. determined _ _ _;
       lineage-len = λ book key text len. determined _ _ _;
+      pair-passes = λ book rule key passes. determined _ _ _;
     }

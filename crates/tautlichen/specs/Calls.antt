@@ -13,6 +13,9 @@ use Rattle.reaches.specs.Reaches.{keysOf}
 use Rattle.protocol.specs.Listing.{listingOf}
 use Rattle.protocol.specs.Provn.{provnText, provnNo}
 use Rattle.protocol.specs.Lent.{first, shortNo}
+use Rattle.protocol.specs.Words.{pick}
+use Rattle.pairing.specs.declared.Checked.{Checked}
+use Rattle.pairing.specs.Pair.{isRule, checkOf}
 
 -- the listing of a run
 abbrev pub ranListing : Ran → List ℕ
@@ -52,3 +55,10 @@ lineageText book key = provnText (history book .state) key
 
 unfoldable pub lineageNo : List ℕ → ℕ → List ℕ → ℕ
 lineageNo book key text = first (history book .answer) (provnNo (history book .state) key text)
+
+-- The pair rule of a key after a book: 19 for another rule, then the run's refusals, then the check's.
+abbrev pub pairAfter : List ℕ → ℕ → ℕ → Checked
+pairAfter book rule key = checkOf (history book .state) rule key
+
+unfoldable pub pairNo : List ℕ → ℕ → ℕ → ℕ
+pairNo book rule key = pick (isRule rule) (first (history book .answer) (pairAfter book rule key .answer)) 19

@@ -6,7 +6,8 @@ use lib.ListN.{length}
 use Rattle.protocol.specs.Run.{runOf, bufferOf}
 use Rattle.reaches.specs.Reaches.{keysOf}
 use Rattle.protocol.specs.Lent.{lent, over}
-use Rattle.tautlichen.specs.Calls.{listText, listNo, drainAfter, drainText, drainNo, walkAfter, walkNo, lineageText, lineageNo}
+use Rattle.tautlichen.specs.Calls.{listText, listNo, drainAfter, drainText, drainNo, walkAfter, walkNo, lineageText, lineageNo, pairAfter, pairNo}
+use Rattle.protocol.specs.Words.{one}
 
 -- of two results with their numbers, where such is the number and such is written
 abbrev pub Determined : {A : Type 0} → ℕ → A → A → Type 0
@@ -28,3 +29,4 @@ pub record EveryExport : Type 0 where
   pub walk-lookups : (book : List ℕ) (key : ℕ) (keys : List ℕ) (lookups : ℕ) → Determined (walkNo book key keys) (walkAfter book key .lookups) lookups
   pub lineage-text : (book : List ℕ) (key : ℕ) (text : List ℕ) → Determined (lineageNo book key text) (over (lineageText book key) text) text
   pub lineage-len : (book : List ℕ) (key : ℕ) (text : List ℕ) (len : ℕ) → Determined (lineageNo book key text) (length (lineageText book key)) len
+  pub pair-passes : (book : List ℕ) (rule key passes : ℕ) → Determined (pairNo book rule key) (one (pairAfter book rule key .passes)) passes

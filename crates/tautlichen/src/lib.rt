@@ -5,12 +5,13 @@ use protocol::State;
 ghost use mathlib.Core.Path.{_≡_};
 ghost use lib.ListN.{length};
 ghost use lib.Dec.{ltb};
-ghost use Rattle.protocol.specs.Words.{pick};
+ghost use Rattle.protocol.specs.Words.{one, pick};
 ghost use Rattle.protocol.specs.Run.{runOf, bufferOf};
 ghost use Rattle.reaches.specs.Reaches.{keysOf};
 ghost use Rattle.protocol.specs.Listing.{listingOf};
 ghost use Rattle.protocol.specs.Lent.{first, lent, shortNo, over};
-ghost use Rattle.tautlichen.specs.Calls.{listText, listNo, history, drainAfter, drainText, drainNo, walkAfter, walkNo, lineageText, lineageNo};
+ghost use Rattle.tautlichen.specs.Calls.{listText, listNo, history, drainAfter, drainText, drainNo, walkAfter, walkNo, lineageText, lineageNo, pairAfter, pairNo};
+ghost use Rattle.pairing.specs.Pair.{checkOf};
 
 // Writes the listing of a machine after so many steps, of which so many were taken, and its length.
 fn show(m: State, steps: u16, taken: u16, text: &mut [u8], len: &mut u16) -> u8
@@ -173,4 +174,45 @@ pub extern "C" fn tautlichen_lineage(book: &[u8], key: u8, text: &mut [u8], len:
     }
     *len = written.len;
     0
+}
+
+// The pair rule.
+
+fn flag(b: bool) -> u8
+    ensures { λ r. ⌜ r ≡ one b ⌝ }
+{
+    if b {
+        return 1;
+    }
+    0
+}
+
+// The check of a key in the machine after a run.
+fn paired(ran: Ran, rule: u8, key: u8, passes: &mut u8) -> u8
+    ensures number { λ r. ⌜ r ≡ first (ran .answer) (checkOf (ran .state) rule key .answer) ⌝ }
+    ensures passes { λ r. ⌜ now (passes .exit) ≡ lent r (one (checkOf (ran .state) rule key .passes)) (now (passes .entry)) ⌝ }
+{
+    if ran.answer != 0 {
+        return ran.answer;
+    }
+    let m = ran.state;
+    let checked = pair_rule::check(m, rule, key);
+    if checked.answer != 0 {
+        return checked.answer;
+    }
+    *passes = flag(checked.passes);
+    0
+}
+
+// Checks the pair of a forecast by rule 1 or 2 in the machine after a book: 1 where it passes, else 0. Refused with 19, 10, 11,
+// then 2, 13, 20.
+#[no_mangle]
+pub extern "C" fn tautlichen_pair(book: &[u8], rule: u8, key: u8, passes: &mut u8) -> u8
+    ensures number { λ r. ⌜ r ≡ pairNo (now (book .entry)) rule key ⌝ }
+    ensures passes { λ r. ⌜ now (passes .exit) ≡ lent r (one (pairAfter (now (book .entry)) rule key .passes)) (now (passes .entry)) ⌝ }
+{
+    if pair_rule::is_rule(rule) {
+        return paired(after(book), rule, key, passes);
+    }
+    19
 }

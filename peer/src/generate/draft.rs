@@ -1,6 +1,7 @@
 //! A book in the making, with the machine that it has led to so far.
 
 use super::enabled::enabled;
+use super::pairs::any_word;
 use crate::book::{Book, MAX_STEPS};
 use crate::machine::{members, ActorSetup, Machine, MAX_ACTORS, MAX_INTERACTIONS, MAX_STORES};
 use crate::random::Random;
@@ -11,6 +12,8 @@ pub struct Draft {
     pub machine: Machine,
     pub book: Book,
     temper: Temper,
+    /// What a send's data is drawn by.
+    data: fn(&mut Random) -> u32,
 }
 
 /// How often each kind is picked, and how many interactions are made at most.
@@ -21,11 +24,21 @@ struct Temper {
 
 impl Draft {
     /// An empty book on a random legal setup.
-    pub fn new(mut random: Random) -> Draft {
-        let (stores, actors) = setup(&mut random);
+    pub fn new(random: Random) -> Draft {
+        Draft::with_actors(2, random, any_data)
+    }
+
+    /// The same for a book about pairs, which needs a third actor.
+    pub fn about_pairs(random: Random) -> Draft {
+        Draft::with_actors(3, random, any_word)
+    }
+
+    fn with_actors(least: usize, mut random: Random, data: fn(&mut Random) -> u32) -> Draft {
+        let (stores, actors) = setup(&mut random, least);
         let machine = Machine::setup(stores, &actors).expect("the setup is legal");
         let temper = Temper::new(&mut random);
-        Draft { random, machine, book: Book { stores, actors, steps: Vec::new() }, temper }
+        let book = Book { stores, actors, steps: Vec::new() };
+        Draft { random, machine, book, temper, data }
     }
 
     /// Adds the step if the machine takes it.
@@ -54,6 +67,16 @@ impl Draft {
         for _ in 0..steps {
             let step = self.legal_step();
             self.add_if_taken(step);
+        }
+    }
+
+    /// Restarts every store and adds the drain's steps, so that nothing stays open.
+    pub fn close(&mut self) {
+        for store in 0..self.machine.store_count {
+            self.add_if_taken(Step::Restart { store });
+        }
+        while let Some(step) = self.machine.next_of_drain() {
+            self.add(step);
         }
     }
 
@@ -97,10 +120,7 @@ impl Draft {
         let list = self.machine.actors[usize::from(from)].list;
         let listed: Vec<u8> = members(list.into()).collect();
         let own = self.random.pick(&listed).expect("a list has two stores or more");
-        let data = match self.random.one_in(4) {
-            true => self.random.bits() as u32,
-            false => self.random.below(100) as u32,
-        };
+        let data = (self.data)(&mut self.random);
         Step::Send { from, to, own, data, causes }
     }
 
@@ -117,12 +137,19 @@ impl Draft {
     }
 }
 
+fn any_data(random: &mut Random) -> u32 {
+    match random.one_in(4) {
+        true => random.bits() as u32,
+        false => random.below(100) as u32,
+    }
+}
+
 /// Mostly a few stores and actors, so that the steps meet each other.
-fn setup(random: &mut Random) -> (u8, Vec<ActorSetup>) {
+fn setup(random: &mut Random, least_actors: usize) -> (u8, Vec<ActorSetup>) {
     let most_stores = if random.one_in(4) { MAX_STORES } else { 4 };
     let most_actors = if random.one_in(4) { MAX_ACTORS } else { 3 };
     let stores = random.between(2, most_stores);
-    let actors = random.between(2, most_actors);
+    let actors = random.between(least_actors, most_actors);
     let actors = (0..actors).map(|_| actor_setup(random, stores)).collect();
     (stores as u8, actors)
 }

@@ -152,7 +152,7 @@ impl Draft {
         self.machine.interaction_count - 1
     }
 
-    fn actor_beside(&mut self, actor: u8) -> u8 {
+    pub fn actor_beside(&mut self, actor: u8) -> u8 {
         let actors = usize::from(self.machine.actor_count);
         ((usize::from(actor) + self.random.between(1, actors - 1)) % actors) as u8
     }

@@ -99,6 +99,18 @@ fn lineages_are_compared_with_their_words() {
 }
 
 #[test]
+fn pair_checks_are_compared_with_their_words() {
+    let program = stand_in("pair").display().to_string();
+    let output = peer(&["compare-pair", "0", "40", &program], &[]);
+    assert_eq!(text(&output.stdout), "40 books from seed 0: no difference\n");
+    // One that knows rule one alone.
+    let lax = stand_in("pair 1 \"$2\" \"$3\" #").display().to_string();
+    let output = peer(&["compare-pair", "0", "100", &lax], &[]);
+    assert!(text(&output.stdout).contains(" differs, and the smallest such book found is"));
+    assert_eq!(output.status.code(), Some(1));
+}
+
+#[test]
 fn message_files_are_compared_too() {
     let program = stand_in("prep").display().to_string();
     let output = peer(&["compare-prep", "0", "60", &program], &[]);

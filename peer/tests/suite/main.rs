@@ -9,6 +9,7 @@ mod explain;
 mod generated;
 mod lineage;
 mod marked_runs;
+mod pair;
 mod prep;
 mod programs;
 mod refusals;

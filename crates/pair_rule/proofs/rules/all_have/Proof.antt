@@ -1,0 +1,60 @@
+-- The loop tests place by place, as `allBelow` is defined. Assumes nothing.
+use Prim.Native.Nat.{_-_}
+use mathlib.Core.Path.{sym, ap, _∙_}
+use native.Mathlib.Omega.{arith}
+use borrow.Author.Needs.{needs}
+use lib.ListN.{getD}
+use Rattle.protocol.specs.Slots.{noContents}
+use Rattle.unbroken.proofs.Pass.{Tallied, tally-start, tally-step, tally-end}
+use Rattle.pairing.specs.Pair.{hasBundle}
+use Rattle.pair_rule.proofs.rules.all_have.Statement.{statement}
+use Rattle.pair_rule.proofs.rules.all_have.Tie as tie
+
+abbrev Inv-loop : tie.InvT-loop
+Inv-loop bundle met all₀ i₀ all i = Tallied 16 (λ j. hasBundle bundle (getD met j noContents)) i all
+
+abbrev μ-loop : tie.MeasureT-loop
+μ-loop bundle met all₀ i₀ all i = 16 - i
+
+loop-holds : tie.Need-loop-holds Inv-loop μ-loop
+loop-holds c = tally-start 16 _
+
+mul-has-bundle : tie.Need-mul-has-bundle Inv-loop μ-loop
+mul-has-bundle c = omega arith
+
+array-copy-out-has-bundle : tie.Need-array-copy-out-has-bundle Inv-loop μ-loop
+array-copy-out-has-bundle c = omega arith
+
+has-bundle-requires : tie.Need-has-bundle-requires Inv-loop μ-loop
+has-bundle-requires c κs = search needs
+
+both-requires : tie.Need-both-requires Inv-loop μ-loop
+both-requires c κs = search needs
+
+add-i : tie.Need-add-i Inv-loop μ-loop
+add-i c = omega arith
+
+loop-less : tie.Need-loop-less Inv-loop μ-loop
+loop-less c = omega arith
+
+loop-again : tie.Need-loop-again Inv-loop μ-loop
+loop-again c = tally-step (c .before .before .before .before .loop .inv) (c .before .before .before .loop-test .taken) (simp (c .both .ensures, c .before .has-bundle .ensures))
+
+returns : tie.Need-returns Inv-loop μ-loop
+returns c = tally-end (c .before .loop .inv) (c .loop-test .left)
+
+pub all-have-spec : {M : Type 1} → statement M
+all-have-spec =
+    tie.close
+    (tie.spec
+    Inv-loop
+    μ-loop
+    loop-holds
+    mul-has-bundle
+    array-copy-out-has-bundle
+    has-bundle-requires
+    both-requires
+    add-i
+    loop-less
+    loop-again
+    returns)

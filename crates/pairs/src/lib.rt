@@ -1,0 +1,1 @@
+// The laws of the pair rule: specs/ states them, proofs/ proves them.
