@@ -4,11 +4,18 @@ use std::fs;
 use std::path::{Path, PathBuf};
 
 use peer::lineage::lineage;
+use peer::pair::pair;
 use peer::programs::{inspect, recorder};
 use peer::text;
 
-const EXAMPLES: [&str; 4] =
-    ["crash-and-restart", "lost-acknowledgement", "lost-record", "rollback"];
+const EXAMPLES: [&str; 6] = [
+    "crash-and-restart",
+    "lost-acknowledgement",
+    "lost-record",
+    "matched-pair",
+    "mixed-pair",
+    "rollback",
+];
 
 fn folder() -> PathBuf {
     Path::new(env!("CARGO_MANIFEST_DIR")).join("../examples")
@@ -54,4 +61,16 @@ fn the_rollbacks_forecast_is_kept_as_prov_n() {
     let book = kept("rollback", "book");
     let words = ["2", "drained"].map(String::from);
     assert_eq!(kept("rollback", "provn"), lineage(&words, &book).into_bytes());
+}
+
+#[test]
+fn the_mixed_pair_is_told_from_the_right_one() {
+    for name in ["mixed-pair", "matched-pair"] {
+        let calls = String::from_utf8(kept(name, "pair")).expect("lines of text");
+        for line in calls.lines() {
+            let (words, says) = line.split_once(": ").expect("words and what is printed");
+            let words: Vec<String> = words.split(' ').map(String::from).collect();
+            assert_eq!(pair(&words, &kept(name, "book")), format!("{says}\n"), "{name}: {words:?}");
+        }
+    }
 }
