@@ -12,9 +12,9 @@ const EXAMPLES: [&str; 6] = [
     "crash-and-restart",
     "lost-acknowledgement",
     "lost-record",
-    "matched-pair",
-    "mixed-pair",
+    "right-pair",
     "rollback",
+    "wrong-pair",
 ];
 
 fn folder() -> PathBuf {
@@ -64,8 +64,8 @@ fn the_rollbacks_forecast_is_kept_as_prov_n() {
 }
 
 #[test]
-fn the_mixed_pair_is_told_from_the_right_one() {
-    for name in ["mixed-pair", "matched-pair"] {
+fn the_wrong_pair_is_told_from_the_right_one() {
+    for name in ["wrong-pair", "right-pair"] {
         let calls = String::from_utf8(kept(name, "pair")).expect("lines of text");
         for line in calls.lines() {
             let (words, says) = line.split_once(": ").expect("words and what is printed");
