@@ -18,8 +18,8 @@ use Rattle.protocol.specs.Chain.{stated, keysOf, chainOf}
 use Rattle.protocol.specs.declared.State.{State}
 use Rattle.protocol.specs.declared.Contents.{Contents}
 use Rattle.unbroken.specs.Unbroken.{Unbroken}
-use Rattle.unbroken.specs.EverySlot.{SetupKind, none as unset, some}
 use Rattle.unbroken.proofs.Laws.{unbroken}
+use Rattle.unbroken.proofs.Laws.Room.{actors8}
 use Rattle.unbroken.proofs.Laws.Tests.{and-left, and-right, by-test, not-both}
 use Rattle.reaches.specs.Reaches.{Reach, here, by}
 use Rattle.reaches.proofs.Behind.{nothing-held}
@@ -51,25 +51,18 @@ each-map f g none = none
 each-map f g (more p ps) = more (g _ p) (each-map f g ps)
 
 module _ {m : State} (u : Unbroken m) where
-  actors8 : m .actors ≤ 8
-  actors8 = go (u .setup)
-    where
-      go : SetupKind (m .stores) (m .actors) (m .homes) (m .lists) → m .actors ≤ 8
-      go (unset s a) = omega (arith, a)
-      go (some l) = l .actors8
-
   -- what is reached is made
   reach-made : {k i : ℕ} → Reach m k i → k < m .made → i < m .made
   reach-made here h = h
   reach-made {k} (by {j = j} c r) h =
-      reach-made r (omega (arith, u .causeBelow (number k 0) j (omega (arith, u .made16)) (c .low) (c .set)))
+      reach-made r (omega (arith, u .viewAt (number k 0) (omega (arith, u .made16)) .causes .below j (c .low) (c .set)))
 
   stated-lawful : (i : ℕ) → i < m .made → Lawful (stated m i)
   stated-lawful i h =
       record {
         key16 = omega (arith, u .made16);
-        sender8 = omega (arith, u .actorIn (number i 0) (omega arith), actors8);
-        below = λ j b t. omega (arith, u .causeBelow (number i 0) j (omega (arith, u .made16)) b t);
+        sender8 = omega (arith, u .viewAt (number i 0) (omega (arith, u .made16)) .actorIn (omega arith), actors8 m u);
+        below = λ j b t. omega (arith, u .viewAt (number i 0) (omega (arith, u .made16)) .causes .below j b t);
       }
 
 module _ (m : State) (k : ℕ) (e : walkOf m k .answer ≡ 0) where
@@ -102,6 +95,6 @@ looked-up m k i link e b f =
     let both = and-left (not (eqb link 0) && contents m (link - 1) (number i 0) .held) (closedOf m i) f in
     let held = and-right (not (eqb link 0)) (contents m (link - 1) (number i 0) .held) both in
     elim (decLt (link - 1) 8) [
-      | yes q ↦ (u .sameActor (link - 1) (number i 0) q (omega arith) held, u .sameCauses (link - 1) (number i 0) q (omega arith) held)
+      | yes q ↦ (u .contentsAt (link - 1) (number i 0) q (omega arith) .sameActor held, u .contentsAt (link - 1) (number i 0) q (omega arith) .sameCauses held)
       | no q ↦ not-both _ held (ap (λ (c : Contents). c .held) (nothing-held m (u .sized .contents) (link - 1) (number i 0) (omega arith)))
     ]

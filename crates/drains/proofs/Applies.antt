@@ -13,7 +13,7 @@ use Rattle.protocol.specs.Broken.{brokenOf}
 use Rattle.protocol.specs.declared.State.{State}
 use Rattle.protocol.specs.declared.Drained.{Drained}
 use Rattle.protocol.specs.Drain.{course, upIn, allUp, drained, drainOf}
-use Rattle.unbroken.proofs.Laws.{slots}
+use Rattle.unbroken.proofs.Laws.{unbroken}
 use Rattle.unbroken.proofs.Laws.Tests.{by-test, not-both, or-else, nor-left, nor-right, not-of}
 use Rattle.unbroken.proofs.Laws.Every.{all-at, all-each, below-at, below-fails}
 use Rattle.keeps.proofs.Stores.{store-8}
@@ -47,7 +47,7 @@ module _ (m : State) where
   -- a store that is down is one of eight
   finds-down : brokenOf m ≡ false → allUp m ≡ false → (p : ℕ) × (p < m .stores) × (isUp m p ≡ false)
   finds-down b e =
-      let long = slots m b .sized .shelves in
+      let long = unbroken m b .sized .shelves in
       let up : ℕ → Bool = λ p. upIn (m .stores) p (shelf m p) in
       let x = below-fails 8 up (by-test (allBelow 8 up) (λ h. not-both (allUp m) (all-each (upIn (m .stores)) (m .shelves) noStore (λ p l. below-at 8 up h p (omega arith))) e) (λ h. h)) in
       (x .0, leb-false (m .stores) (x .0) (nor-left (leb (m .stores) (x .0)) (isUp m (x .0)) (x .2)), nor-right (leb (m .stores) (x .0)) (isUp m (x .0)) (x .2))
@@ -55,7 +55,7 @@ module _ (m : State) where
   told-down : {n : ℕ} → brokenOf m ≡ false → Applies m n → n ≡ 5 → allUp m ≡ false
   told-down b (isBroken e) q = absurd (omega arith)
   told-down b (isDown p l e) q =
-      let s = slots m b in
+      let s = unbroken m b in
       let h = store-8 m s p l in
       let long = s .sized .shelves in
       by-test (allUp m) (λ u. not-both (isUp m p) (or-else (leb (m .stores) p) (isUp m p) (all-at (upIn (m .stores)) (m .shelves) noStore u p (omega arith)) (lt-leb (m .stores) p l)) e) (λ u. u)

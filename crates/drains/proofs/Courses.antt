@@ -61,8 +61,8 @@ regular : (m : State) → Unbroken m → (v : ℕ) → v < m .made * 2 → Regul
 unfolding seenOf
 regular m w v h =
     record {
-      fresh = λ e. ap (λ (x : View). x .changed) (w .viewUnset v (omega (arith, w .made16)) e);
-      entered = λ e. w .entrySettled v (omega (arith, w .made16)) (some (eqb-false (statusNumber (entry m v .status)) 0 (not-true (eqb (statusNumber (entry m v .status)) 0) e)));
+      fresh = λ e. ap (λ (x : View). x .changed) (w .viewAt v (omega (arith, w .made16)) .unset e);
+      entered = λ e. w .entryAt v (omega (arith, w .made16)) .settled (some (eqb-false (statusNumber (entry m v .status)) 0 (not-true (eqb (statusNumber (entry m v .status)) 0) e)));
     }
   where
     some : {n : ℕ} → (n ≡ 0 → ⊥) → 1 ≤ n

@@ -11,6 +11,7 @@ use lib.Seq.{getD-set-same, getD-set-other}
 use borrow.Author.Tests.{eq-eqb, lt-leb}
 use Rattle.protocol.specs.Slots.{number, place, noRepair, noEntry, statusNumber, isUp, view, repair, entry, updateCopies, uackCopies}
 use Rattle.unbroken.specs.Unbroken.{Unbroken}
+use Rattle.unbroken.proofs.Laws.Room.{made-32}
 use Rattle.unbroken.proofs.Shelves.{linked-all}
 use Rattle.protocol.specs.declared.State.{State}
 use Rattle.protocol.specs.declared.Entry.{Entry}
@@ -26,7 +27,7 @@ use Rattle.protocol.specs.declared.Step.the-variants.{TakeRepair, SendUpdate, T
 use Rattle.protocol.specs.Drain.{keyOf, roleOf}
 use Rattle.drains.proofs.StepsLeft.{Seen, seen, stepsLeft, repairToCome, hasEntry, repair-lowers, second-repair-lowers, sendUpdate-lowers, takeUpdate-lowers, takeUack-lowers, expire-lowers}
 use Rattle.drains.proofs.Total.{seenOf, total-less, total-falls, opposite}
-use Rattle.drains.proofs.Jobs.{Lowers, in32, same-number, some-more, place-other}
+use Rattle.drains.proofs.Jobs.{Lowers, same-number, some-more, place-other}
 
 -- a status is known by its number
 no-entry : (s : Status) → hasEntry s ≡ false → s ≡ Nothing
@@ -122,7 +123,7 @@ module _ (m : State) (w : Unbroken m) (v : ℕ) (hv : v < m .made * 2) where
   takeRepair-good there =
       record {
         taken = rw (lt-leb (m .made) (keyOf v) key, lt-leb 2 (roleOf v) (omega arith), same-number v, there);
-        lower = total-less m (repairTaken m (keyOf v) (roleOf v)) refl v hv (repaired-low (w .repairSettled v (in32 m w hv) there) there) repaired-far;
+        lower = total-less m (repairTaken m (keyOf v) (roleOf v)) refl v hv (repaired-low (w .repairAt v (made-32 m w v hv) .settled there) there) repaired-far;
         up = refl;
         stores = refl;
         made = refl;
@@ -143,7 +144,7 @@ module _ (m : State) (w : Unbroken m) (v : ℕ) (hv : v < m .made * 2) where
     inUacks = omega (arith, w .sized .uacks, inPlaces)
 
     elsewhere : (u : ℕ) → u < m .made * 2 → u ≢ v → place (entry m u .destination) u ≢ place p v
-    elsewhere u l n = place-other p v (entry m u .destination) u (in32 m w hv) (in32 m w l) n
+    elsewhere u l n = place-other p v (entry m u .destination) u (made-32 m w v hv) (made-32 m w u l) n
 
     -- step 10
     pub sendUpdate-good : entry m v .status ≡ ToSend → Lowers m (SendUpdate (keyOf v) (roleOf v))

@@ -13,6 +13,7 @@ use Rattle.protocol.specs.Words.{pick, bit}
 use Rattle.protocol.specs.Slots.{number, place, noView, noRepair, isUp, list, queue, view, repair, recordCopies, ackCopies}
 use Rattle.protocol.specs.Writes.{withView, withRecordCopies, withAckCopies}
 use Rattle.unbroken.specs.Unbroken.{Unbroken}
+use Rattle.unbroken.proofs.Laws.Room.{made-32}
 use Rattle.unbroken.proofs.Shelves.{linked-all}
 use Rattle.protocol.specs.declared.State.{State}
 use Rattle.protocol.specs.declared.View.{View}
@@ -44,10 +45,6 @@ pub record Lowers (m : State) (s : Step) : Type 0 where
 -- a view's number is that of its key and role
 pub same-number : (v : ℕ) → number (keyOf v) (roleOf v) ≡ v
 same-number v = omega arith
-
--- a view that is made has a slot
-pub in32 : (m : State) → Unbroken m → {u : ℕ} → u < m .made * 2 → u < 32
-in32 m w l = omega (arith, w .made16)
 
 -- where copies go, there are some
 pub some-more : (n : ℕ) → not (eqb (more n) 0) ≡ true
@@ -105,7 +102,7 @@ module _ (m : State) (w : Unbroken m) (v : ℕ) (hv : v < m .made * 2) where
     record-far u l n =
         rw (
           getD-set-other (m .views) v u x noView n,
-          getD-set-other (m .records) (place (x .store) v) (place (view m u .store) u) c 0 (place-other (x .store) v (view m u .store) u (in32 m w hv) (in32 m w l) n),
+          getD-set-other (m .records) (place (x .store) v) (place (view m u .store) u) c 0 (place-other (x .store) v (view m u .store) u (made-32 m w v hv) (made-32 m w u l) n),
         )
 
     seen-ack : seenOf (withAckCopies (withView m v x) (x .store) v c) v
@@ -119,7 +116,7 @@ module _ (m : State) (w : Unbroken m) (v : ℕ) (hv : v < m .made * 2) where
     ack-far u l n =
         rw (
           getD-set-other (m .views) v u x noView n,
-          getD-set-other (m .acks) (place (x .store) v) (place (view m u .store) u) c 0 (place-other (x .store) v (view m u .store) u (in32 m w hv) (in32 m w l) n),
+          getD-set-other (m .acks) (place (x .store) v) (place (view m u .store) u) c 0 (place-other (x .store) v (view m u .store) u (made-32 m w v hv) (made-32 m w u l) n),
         )
 
 -- step 2
@@ -130,7 +127,7 @@ receive-good m w k hk h =
     let hv : number k 1 < m .made * 2 = omega arith in
     let x = receivedView m k in
     let s = me m w v hv in
-    let before : s ≡ seen 0 false (s .repair) (s .status) (s .ack) (s .sent) (s .uack) (s .update) = rw (h, ap (λ (y : View). y .changed) (w .viewUnset v (in32 m w hv) h)) in
+    let before : s ≡ seen 0 false (s .repair) (s .status) (s .ack) (s .sent) (s .uack) (s .update) = rw (h, ap (λ (y : View). y .changed) (w .viewAt v (made-32 m w v hv) .unset h)) in
     record {
       taken = rw (lt-leb (m .made) k hk, eq-eqb (view m v .phase) 0 h);
       lower = total-falls m (receivedOf m k) refl v hv _ _ before (seen-view m w v hv x) (view-far m w v hv x)
@@ -153,7 +150,7 @@ module _ (m : State) (w : Unbroken m) (a : ℕ) (ha : a < m .actors) (some : que
   phased-as n h = rw h
 
   inStores : 1 ≤ view m v .phase → view m v .store < m .stores
-  inStores = w .storeIn v (omega (arith, w .made16))
+  inStores = w .viewAt v (omega (arith, w .made16)) .storeIn
 
   pub preCheck-good : view m v .phase ≡ 1 → Lowers m (PreCheck a)
   unfolding preCheckNo preChecked seenOf
@@ -205,7 +202,7 @@ module _ (m : State) (w : Unbroken m) (a : ℕ) (ha : a < m .actors) (some : que
       where
         settled-only : (b : Bool) → repair m v .flying ≡ b → repair m v .flying ≡ false
         settled-only false e = e
-        settled-only true e = absurd (omega (arith, w .repairSettled v (in32 m w hv) e))
+        settled-only true e = absurd (omega (arith, w .repairAt v (made-32 m w v hv) .settled e))
 
     -- phase 3: the spare store, the ack and the record
     module _ (h : view m v .phase ≡ 3) where
@@ -262,7 +259,7 @@ module _ (m : State) (w : Unbroken m) (a : ℕ) (ha : a < m .actors) (some : que
             taken = rw (lt-leb (m .stores) p (inStores (omega arith)), lt-leb (m .made) (keyOf v) (omega arith), lt-leb 2 (roleOf v) (omega arith), same-number v, up, there);
             lower = total-falls m n refl v hv _ _ before after
                 (λ u l n.
-                let o = place-other p v (view m u .store) u (in32 m w hv) (in32 m w l) n in
+                let o = place-other p v (view m u .store) u (made-32 m w v hv) (made-32 m w u l) n in
                 rw (same-number v, getD-set-other (m .records) (place p v) (place (view m u .store) u) c 0 o, getD-set-other (m .acks) (place p v) (place (view m u .store) u) d 0 o))
                 (takeRecord-lowers _ (s .repair) (s .status) (s .uack) (s .update) (s .changed) _);
             up = linked-all (m .shelves) p (number (keyOf v) (roleOf v)) _ (λ q b. leb (m .stores) q || b);

@@ -10,7 +10,7 @@ use lib.Dec.{eqb}
 use borrow.Author.Tests.{ne-eqb, eqb-false}
 use Rattle.protocol.specs.Words.{bit}
 use Rattle.protocol.specs.Setup.{storesIn}
-use Rattle.unbroken.specs.EverySlot.{LegalActor}
+use Rattle.unbroken.specs.Unbroken.{LegalActor}
 use Rattle.protocol.specs.Drain.{lowest}
 use Rattle.drains.proofs.Lowest.{finds}
 use Rattle.drains.proofs.Total.{sum, sum-most}

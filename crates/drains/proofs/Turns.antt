@@ -1,22 +1,22 @@
 -- What the drain does next: a step that is taken and leaves one step less, or nothing, and then all interactions are closed.
 -- By cases on what it looks for, in its order; assumes nothing.
 use Prim.Native.Nat.{ℕ, _*_, _/_, _%_, _≤_, _<_}
-use mathlib.Core.Path.{_≡_, refl, ap}
+use mathlib.Core.Path.{_≡_, refl}
 use mathlib.Core.Logic.{_≢_}
-use mathlib.Core.Bool.{Bool, true, false, _&&_, _||_, not}
+use mathlib.Core.Bool.{Bool, true, false, _&&_, not}
 use native.Mathlib.Omega.{arith}
 use native.Mathlib.Decide.{ℕ-discrete, decLt}
 use lib.Dec.{eqb, ltb, leb}
-use lib.ListN.{getD, List·getD-eq-default}
+use lib.ListN.{getD}
 use borrow.Author.Tests.{lt-leb, ltb-true, ltb-false, eqb-true, eqb-false, not-true, not-false}
 use Rattle.protocol.specs.Words.{pick, bit, times}
-use Rattle.protocol.specs.Slots.{number, noView, noStore, statusNumber, isUp, list, queue, view, repair, entry, recordCopies, ackCopies, updateCopies, uackCopies}
-use Rattle.unbroken.specs.EverySlot.{SetupKind, none, some, LegalActor}
+use Rattle.protocol.specs.Slots.{number, noStore, statusNumber, isUp, list, queue, view, repair, entry, recordCopies, ackCopies, updateCopies, uackCopies}
 use Rattle.unbroken.specs.Unbroken.{Unbroken}
 use Rattle.protocol.specs.Closed.{closedOf, restsOf}
 use Rattle.protocol.specs.declared.State.{State}
 use Rattle.unbroken.proofs.Laws.Tests.{and-left, and-right, and-both, or-else, nor-left, nor-right}
 use Rattle.unbroken.proofs.Laws.Every.{all-at}
+use Rattle.unbroken.proofs.Laws.Room.{stores8, actors8, legal-actor, made-view, made-32, sender-made}
 use Rattle.protocol.specs.Rule.{head}
 use Rattle.protocol.specs.declared.Step.the-variants.{Receive, PreCheck, SendRecord, Timeout, TakeRecord, TakeAck, PostCheck, TakeRepair, SendUpdate, TakeUpdate, TakeUack, Expire}
 use Rattle.protocol.specs.Drain.{keyOf, roleOf, unreceived, busy, spare, jobStep, repairDue, unfinished, entryDue, entryStep, turnOf, upIn, allUp}
@@ -40,35 +40,12 @@ Does m (Take s) = Lowers m s
 Does m Rest = AtRest m
 
 module _ (m : State) (w : Unbroken m) where
-  stores8 : m .stores ≤ 8
-  stores8 = go (w .setup)
-    where
-      go : SetupKind (m .stores) (m .actors) (m .homes) (m .lists) → m .stores ≤ 8
-      go (none e f) = omega arith
-      go (some l) = l .stores8
-
-  actors8 : m .actors ≤ 8
-  actors8 = go (w .setup)
-    where
-      go : SetupKind (m .stores) (m .actors) (m .homes) (m .lists) → m .actors ≤ 8
-      go (none e f) = omega arith
-      go (some l) = l .actors8
-
-  -- a view that is in a phase is made
-  started : (v : ℕ) → 1 ≤ view m v .phase → v < m .made * 2
-  started v h = go (decLt v (m .made * 2)) (decLt v 32)
-    where
-      go : Dec (v < m .made * 2) → Dec (v < 32) → v < m .made * 2
-      go (yes l) d = l
-      go (no n) (yes l) = absurd (omega (arith, w .phaseBlank v l (omega arith)))
-      go (no n) (no k) = absurd (omega (arith, ap (λ x. x .phase) (List·getD-eq-default (m .views) noView {n = v} (omega (arith, w .sized .views)))))
-
   -- where the drain has received all, every view made is in a phase
   all-started : ((k : ℕ) → k < m .made → eqb (view m (number k 1) .phase) 0 ≡ false) → (v : ℕ) → v < m .made * 2 → 1 ≤ view m v .phase
   all-started received v h = go (ℕ-discrete (v % 2) 0)
     where
       go : Dec (v % 2 ≡ 0) → 1 ≤ view m v .phase
-      go (yes e) = let q : number (v / 2) 0 ≡ v = omega arith in rw q at (w .senderMade (v / 2) (omega arith))
+      go (yes e) = let q : number (v / 2) 0 ≡ v = omega arith in rw q at (sender-made m w (v / 2) (omega arith))
       go (no e) =
           let q : number (v / 2) 1 ≡ v = omega arith in
           let r = rw q at (eqb-false (view m (number (v / 2) 1) .phase) 0 (received (v / 2) (omega arith))) in
@@ -84,17 +61,17 @@ module _ (m : State) (w : Unbroken m) where
       a = view m v .actor
 
       nobody : queue m a .len ≡ 0
-      nobody = eqb-true (queue m a .len) 0 (not-false (eqb (queue m a .len) 0) (empty a (w .actorIn v h)))
+      nobody = eqb-true (queue m a .len) 0 (not-false (eqb (queue m a .len) 0) (empty a (w .viewAt v (made-32 m w v h) .actorIn h)))
 
       go : Dec (view m v .phase < 5) → view m v .phase ≡ 5
-      go (yes l) = absurd (omega (arith, rw nobody at (w .queuedOnce v (omega (arith, w .made16)) (begun v h) (omega arith))))
-      go (no l) = omega (arith, w .phase5 v h)
+      go (yes l) = absurd (omega (arith, rw nobody at (w .queuedOnce v (made-32 m w v h) (begun v h) (omega arith))))
+      go (no l) = omega (arith, w .viewAt v (made-32 m w v h) .phase5 h)
 
   module _ (up : allUp m ≡ true) where
     isUp-at : (p : ℕ) → p < m .stores → isUp m p ≡ true
     isUp-at p h =
         or-else (leb (m .stores) p) (isUp m p)
-        (all-at (upIn (m .stores)) (m .shelves) noStore up p (omega (arith, stores8, w .sized .shelves)))
+        (all-at (upIn (m .stores)) (m .shelves) noStore up p (omega (arith, stores8 m w, w .sized .shelves)))
         (lt-leb (m .stores) p h)
 
     -- (b) the head of a queue
@@ -103,26 +80,19 @@ module _ (m : State) (w : Unbroken m) where
       v = head m a
 
       in8 : a < 8
-      in8 = omega (arith, actors8)
+      in8 = omega (arith, actors8 m w)
 
       from : 1 ≤ view m v .phase
-      from = w .standsFrom a 0 in8 (omega arith)
+      from = w .queueAt a in8 .standsFrom 0 (omega arith)
 
       to : view m v .phase ≤ 4
-      to = w .standsTo a 0 in8 (omega arith)
+      to = w .queueAt a in8 .standsTo 0 (omega arith)
 
       hv : v < m .made * 2
-      hv = started v from
+      hv = made-view m w v from
 
       at : view m v .store < m .stores
-      at = w .storeIn v (omega (arith, hv, w .made16)) from
-
-      legal : LegalActor (m .stores) (getD (m .homes) a 0) (list m a)
-      legal = go (w .setup)
-        where
-          go : SetupKind (m .stores) (m .actors) (m .homes) (m .lists) → LegalActor (m .stores) (getD (m .homes) a 0) (list m a)
-          go (none e f) = absurd (omega arith)
-          go (some l) = l .actorAt a ha
+      at = w .viewAt v (made-32 m w v hv) .storeIn from
 
       job-lowers : Lowers m (jobStep m a)
       unfolding jobStep
@@ -132,13 +102,13 @@ module _ (m : State) (w : Unbroken m) where
           p = view m v .store
 
           few : p < 8
-          few = omega (arith, at, stores8)
+          few = omega (arith, at, stores8 m w)
 
           third : eqb (view m v .phase) 1 ≡ false → eqb (view m v .phase) 2 ≡ false → eqb (view m v .phase) 4 ≡ false → view m v .phase ≡ 3
           third b c d = omega (arith, from, to, eqb-false (view m v .phase) 1 b, eqb-false (view m v .phase) 2 c, eqb-false (view m v .phase) 4 d)
 
           there : spare m a < m .stores
-          there = spare-there (m .stores) (getD (m .homes) a 0) (list m a) p legal
+          there = spare-there (m .stores) (getD (m .homes) a 0) (list m a) p (legal-actor m w a ha)
 
           chosen : bit (list m a) (spare m a) && not (eqb p (spare m a)) ≡ true
           chosen = finds (m .stores) (λ q. bit (list m a) q && not (eqb p q)) .holds there
@@ -149,7 +119,7 @@ module _ (m : State) (w : Unbroken m) where
           go true c d e f eb ec ed ee ef = preCheck-good m w a ha busy hv (eqb-true (view m v .phase) 1 eb)
           go false true d e f eb ec ed ee ef = sendRecord-good m w a ha busy hv few (eqb-true (view m v .phase) 2 ec)
           go false false true e f eb ec ed ee ef = postCheck-good m w a ha busy hv few (eqb-true (view m v .phase) 4 ed)
-          go false false false false f eb ec ed ee ef = takeAck-good m w a ha busy hv few (third eb ec ed) (w .standsOwn a 0 in8 (omega arith)) ee
+          go false false false false f eb ec ed ee ef = takeAck-good m w a ha busy hv few (third eb ec ed) (w .queueAt a in8 .standsOwn 0 (omega arith)) ee
           go false false false true false eb ec ed ee ef = takeRecord-good m w a ha busy hv few (third eb ec ed) (isUp-at p at) ee ef
           go false false false true true eb ec ed ee ef =
               timeout-good m w a ha busy hv few (third eb ec ed) (spare m a) there
@@ -180,23 +150,23 @@ module _ (m : State) (w : Unbroken m) where
           second e = eqb-true n 2 (or-else (eqb n 1) (eqb n 2) due e)
 
           at′ : 1 ≤ n → p < m .stores
-          at′ h = w .entryDestinationIn v (omega (arith, w .made16)) h
+          at′ h = w .entryAt v (omega (arith, w .made16)) .destinationIn h
 
           go : (b c d : Bool) → eqb n 1 ≡ b → eqb (uackCopies m p v) 0 ≡ c → eqb (updateCopies m p v) 0 ≡ d
               → Lowers m (pick b (SendUpdate (keyOf v) (roleOf v)) (pick (not c) (TakeUack p (keyOf v) (roleOf v)) (pick (not d) (TakeUpdate p (keyOf v) (roleOf v)) (Expire (keyOf v) (roleOf v)))))
           go true c d eb ec ed =
               let h = eqb-true n 1 eb in
-              sendUpdate-good m w v hv (settled v hv) (idle v hv) nothing-to-come (at′ (omega arith)) stores8 (to-send (entry m v .status) h)
+              sendUpdate-good m w v hv (settled v hv) (idle v hv) nothing-to-come (at′ (omega arith)) (stores8 m w) (to-send (entry m v .status) h)
           go false false d eb ec ed =
               let h = second eb in
-              takeUack-good m w v hv (settled v hv) (idle v hv) nothing-to-come (at′ (omega arith)) stores8 (waiting (entry m v .status) h) ec
+              takeUack-good m w v hv (settled v hv) (idle v hv) nothing-to-come (at′ (omega arith)) (stores8 m w) (waiting (entry m v .status) h) ec
           go false true false eb ec ed =
               let h = second eb in
               let l = at′ (omega arith) in
-              takeUpdate-good m w v hv (settled v hv) (idle v hv) nothing-to-come l stores8 (waiting (entry m v .status) h) (isUp-at p l) ec ed
+              takeUpdate-good m w v hv (settled v hv) (idle v hv) nothing-to-come l (stores8 m w) (waiting (entry m v .status) h) (isUp-at p l) ec ed
           go false true true eb ec ed =
               let h = second eb in
-              expire-good m w v hv (settled v hv) (idle v hv) nothing-to-come (at′ (omega arith)) stores8 (waiting (entry m v .status) h) ec ed
+              expire-good m w v hv (settled v hv) (idle v hv) nothing-to-come (at′ (omega arith)) (stores8 m w) (waiting (entry m v .status) h) ec ed
 
     -- the turns from (d) on, and from (c) on
     abbrev entryTurn : Turn

@@ -20,7 +20,7 @@ use Rattle.protocol.specs.Rule.{head}
 use Rattle.protocol.specs.PreCheck.{checkedLink}
 use Rattle.protocol.specs.declared.Step.{Step}
 use Rattle.unbroken.proofs.Laws.Every.{table-at}
-use Rattle.guarantees.proofs.Heads.{actors8}
+use Rattle.unbroken.proofs.Laws.Room.{actors8, sender-made}
 use Rattle.guarantees.proofs.Turns.{Turn, stays, received, checked, sends, moved, acked, settled}
 
 -- y stands in a list; x stands before y
@@ -189,7 +189,7 @@ module _ (m : State) (u : Unbroken m) (s : Step) (j k : ℕ) (hj : j < 16) (hk :
       once = u .queuedOnce (number k 0) hy (omega arith) (omega arith)
 
       a8 : view m (number k 0) .actor < 8
-      a8 = omega (arith, actors8 m u, u .actorIn (number k 0) (omega arith))
+      a8 = omega (arith, actors8 m u, u .viewAt (number k 0) hy .actorIn (omega arith))
 
       some : Dec (queue m (view m (number k 0) .actor) .len ≡ 0) → 0 < queue m (view m (number k 0) .actor) .len
       some (yes d) = absurd (none-stands (queue m (view m (number k 0) .actor)) (number k 0) d once)
@@ -197,7 +197,7 @@ module _ (m : State) (u : Unbroken m) (s : Step) (j k : ℕ) (hj : j < 16) (hk :
 
       front : (t : List ℕ) × (standing (queue m (view m (number k 0) .actor)) ≡ number k 0 ∷ t)
       front =
-          let f = stands-head (queue m (view m (number k 0) .actor) .views) (queue m (view m (number k 0) .actor) .len) (some (ℕ-discrete (queue m (view m (number k 0) .actor) .len) 0)) (omega (arith, u .queueLong (view m (number k 0) .actor) a8)) in
+          let f = stands-head (queue m (view m (number k 0) .actor) .views) (queue m (view m (number k 0) .actor) .len) (some (ℕ-discrete (queue m (view m (number k 0) .actor) .len) 0)) (omega (arith, u .queueAt (view m (number k 0) .actor) a8 .long)) in
           (f .0, f .1 ∙ ap (λ (z : ℕ). z ∷ f .0) (sym e))
 
       go : Dec (view m (number j 1) .phase ≡ 5) → view m (number j 1) .phase ≡ 5
@@ -242,7 +242,7 @@ module _ (m : State) (u : Unbroken m) (s : Step) (j k : ℕ) (hj : j < 16) (hk :
         late = λ h. ap (λ (w : View). w .phase) (turn-settled t (c .late h)) ∙ c .late h;
         right = λ h. c .right h ∙ sym (ap (λ (w : View). w .store) (turn-settled t (c .late h)));
       }
-  keep (received i e h) t b f g c = absurd (omega (arith, u .senderMade k hk))
+  keep (received i e h) t b f g c = absurd (omega (arith, sender-made m u k hk))
   keep (checked h e) t b f g c =
       let d = all-settled c h e in
       let w = turn-settled t d in

@@ -11,10 +11,11 @@ use Rattle.protocol.specs.Slots.{number, statusNumber, view, repair, entry, vie
 use Rattle.protocol.specs.Closed.{restsOf, closedOf}
 use Rattle.unbroken.specs.Unbroken.{Unbroken}
 use Rattle.protocol.specs.declared.State.{State}
+use Rattle.unbroken.proofs.Laws.Room.{stores8, made-view}
 use Rattle.protocol.specs.Send.{sent}
 use Rattle.guarantees.proofs.Local.{Job, Cell, Good, none}
 use Rattle.guarantees.proofs.Whole.{Everywhere}
-use Rattle.guarantees.proofs.Heads.{stores8, and-true, view-made}
+use Rattle.guarantees.proofs.Heads.{and-true}
 
 clash : (b : Bool) → b ≡ true → b ≡ false → ⊥
 clash b e f = let z : _≡_ {A = ℕ} 0 1 = cc in omega arith
@@ -74,9 +75,9 @@ local {me} {ot} {mc} {oc} a b r s x y t = go (ℕ-discrete (ot .status) 0) (ℕ-
 pub accurate : (m : State) → Unbroken m → Everywhere m → (k r : ℕ) → r < 2 → Rests m (number k r) → Rests m (number k (1 - r)) → viewlink m (view m (number k r) .store) (number k r) ≡ view m (number k (1 - r)) .store + 1
 unfolding Everywhere
 accurate m u inv k r hr a b =
-    let hv : number k r < m .made * 2 = view-made m u (number k r) (omega (arith, a .phase)) in
+    let hv : number k r < m .made * 2 = made-view m u (number k r) (omega (arith, a .phase)) in
     let hk : k < m .made = omega arith in
-    let hp : view m (number k r) .store < 8 = omega (arith, stores8 m u, u .storeIn (number k r) (omega (arith, u .made16)) (omega (arith, a .phase))) in
+    let hp : view m (number k r) .store < 8 = omega (arith, stores8 m u, u .viewAt (number k r) (omega (arith, u .made16)) .storeIn (omega (arith, a .phase))) in
     let e : 1 - (1 - r) ≡ r = omega arith in
     let x = inv k r (view m (number k r) .store) hk hr hp in
     let y = rw e at (inv k (1 - r) (view m (number k r) .store) hk (omega arith) hp) in

@@ -15,6 +15,7 @@ use Rattle.protocol.specs.declared.State.{State}
 use Rattle.protocol.specs.declared.Contents.{Contents}
 use Rattle.protocol.specs.declared.Setup.{Setup}
 use Rattle.unbroken.proofs.Laws.{unbroken, fresh-unbroken}
+use Rattle.unbroken.proofs.Laws.Room.{stores8, made-view}
 use Rattle.keeps.proofs.Onward.{step-onward, closed-stays}
 use Rattle.protocol.specs.Step.{stepOf}
 use Rattle.protocol.specs.declared.Step.{Step}
@@ -26,7 +27,6 @@ use Rattle.guarantees.proofs.Whole.{Everywhere, Here}
 use Rattle.guarantees.proofs.Turns.{Turn}
 use Rattle.guarantees.proofs.Causes.{Cause, turn-actor, turn-word, turn-causes, turn-links}
 use Rattle.guarantees.proofs.Rules.{Homes}
-use Rattle.guarantees.proofs.Heads.{view-made, stores8}
 use Rattle.guarantees.proofs.Reached.{Reached, Causes}
 use Rattle.guarantees.proofs.Steps.{Move, turns-to, unmade, step-reached, moves}
 use Rattle.guarantees.proofs.Acks.{Ack, past, now, yet, ack, run-reached, stays-past, comes-to}
@@ -49,7 +49,7 @@ fresh-phase u l v = go (ℕ-discrete (view (freshOf u) v .phase) 0)
   where
     go : Dec (view (freshOf u) v .phase ≡ 0) → view (freshOf u) v .phase ≡ 0
     go (yes e) = e
-    go (no n) = absurd (omega (arith, view-made (freshOf u) (unbroken (freshOf u) (fresh-reached u l .fine)) v (omega arith)))
+    go (no n) = absurd (omega (arith, made-view (freshOf u) (unbroken (freshOf u) (fresh-reached u l .fine)) v (omega arith)))
 
 same-head : (a b : ℕ) → _≡_ {A = List ℕ} (a ∷ []) (b ∷ []) → a ≡ b
 same-head a b e = cc
@@ -98,7 +98,7 @@ accepts m c s v p e = go (ack m c s v) (moves m c s v)
     go (now q k r x y a b d f g) (unmade z) = absurd (omega (arith, z .before))
     go (now q k r x y a b d f g) (turns-to t) =
         let h : q ≡ p = same-head q p (sym a ∙ e) in
-        record { made = view-made m u v (omega arith); phase = b; store = d ∙ h; turn = t; next = f; there = g ∙ h }
+        record { made = made-view m u v (omega arith); phase = b; store = d ∙ h; turn = t; next = f; there = g ∙ h }
 
 flag : (b : Bool) → one b ≡ 1 → b ≡ true
 flag true e = refl
@@ -116,8 +116,8 @@ pub there : (m : State) → Reached m → (k r : ℕ) → r < 2 → 4 ≤ view m
 unfolding Everywhere
 there m c k r hr h =
     let x = unbroken m (c .fine) in
-    let hv : number k r < m .made * 2 = view-made m x (number k r) (omega arith) in
-    let hp : view m (number k r) .store < 8 = omega (arith, stores8 m x, x .storeIn (number k r) (omega (arith, x .made16)) (omega arith)) in
+    let hv : number k r < m .made * 2 = made-view m x (number k r) (omega arith) in
+    let hp : view m (number k r) .store < 8 = omega (arith, stores8 m x, x .viewAt (number k r) (omega (arith, x .made16)) .storeIn (omega arith)) in
     record {
       made = omega arith;
       past = h;
@@ -196,20 +196,20 @@ module _ (u : Setup) (l : Legal u) where
       let a = accepts m c step (number k r) p e in
       let hk : k < m .made = omega (arith, a .made) in
       let hv : number k r < 32 = omega (arith, a .made, x .made16) in
-      let hp : p < 8 = omega (arith, stores8 m x, rw (a .store) at (x .storeIn (number k r) hv (omega (arith, a .phase)))) in
-      let hn : number k r < n .made * 2 = view-made n y (number k r) (omega (arith, a .next)) in
+      let hp : p < 8 = omega (arith, stores8 m x, rw (a .store) at (x .viewAt (number k r) hv .storeIn (omega (arith, a .phase)))) in
+      let hn : number k r < n .made * 2 = made-view n y (number k r) (omega (arith, a .next)) in
       let g = everywhere-at n d k r p (omega arith) hr hp in
       let h : contents n p (number k r) .held ≡ true = flag (contents n p (number k r) .held) (g .keptHeld (omega (arith, a .next)) (a .there)) in
       let q = held-run n d further p (number k r) hp hv h in
       let f : 2 ≤ view m (number k r) .phase = omega (arith, a .phase) in
       record {
         held = ap (λ (w : Contents). w .held) q ∙ h;
-        asserter = ap (λ (w : Contents). w .asserter) q ∙ y .sameActor p (number k r) hp hv h ∙ turn-actor (a .turn);
-        word = ap (λ (w : Contents). w .word) q ∙ y .sameWord p (number k r) hp hv h ∙ turn-word (a .turn) (omega arith);
-        causes = ap (λ (w : Contents). w .causes) q ∙ y .sameCauses p (number k r) hp hv h ∙ turn-causes (a .turn) (omega arith);
+        asserter = ap (λ (w : Contents). w .asserter) q ∙ y .contentsAt p (number k r) hp hv .sameActor h ∙ turn-actor (a .turn);
+        word = ap (λ (w : Contents). w .word) q ∙ y .contentsAt p (number k r) hp hv .sameWord h ∙ turn-word (a .turn) (omega arith);
+        causes = ap (λ (w : Contents). w .causes) q ∙ y .contentsAt p (number k r) hp hv .sameCauses h ∙ turn-causes (a .turn) (omega arith);
         links = λ z j hj.
             let i : contents n p (number k 0) .held ≡ true = rw z at h in
-            let s : getD (causeLinks n p k) j 0 ≡ getD (view n (number k 0) .links) j 0 = y .sameLinks p k j hp (omega (arith, x .made16)) hj i in
+            let s : getD (causeLinks n p k) j 0 ≡ getD (view n (number k 0) .links) j 0 = y .linksAt p k hp (omega (arith, x .made16)) .sameLinks j hj i in
             ap (λ (w : List ℕ). getD w j 0) (links-run n d further p k hp (omega (arith, x .made16)) i) ∙ s
             ∙ ap (λ (w : List ℕ). getD w j 0) (subst (λ (o : ℕ). view n (number k o) .links ≡ view m (number k r) .links) z (turn-links (a .turn) f));
       }

@@ -67,7 +67,7 @@ module _ (m : State) (u : Unbroken m) (b : Bounds m) (a : ℕ) (ha : a < 8) wher
       go (yes x) =
           let t = taken-when m (Send from to own word causes) e in
           let g : standing (getD (set (m .queues) from (joined (queue m from) (number (m .made) 0))) from noQueue) ≡ standing (joined (queue m from) (number (m .made) 0)) = ap standing (getD-set-same (m .queues) from (joined (queue m from) (number (m .made) 0)) noQueue (omega (arith, u .sized .queues))) in
-          longer (number (m .made) 0) (rw x (g ∙ joined-stands (queue m from) (number (m .made) 0) (u .queueLong from (omega arith)) (b .sendRoom from (omega arith) (t .room))))
+          longer (number (m .made) 0) (rw x (g ∙ joined-stands (queue m from) (number (m .made) 0) (u .queueAt from (omega arith) .long) (b .sendRoom from (omega arith) (t .room))))
       go (no x) = same (ap standing (getD-set-other (m .queues) from a (joined (queue m from) (number (m .made) 0)) noQueue x))
   lines (Receive k) e = go (ℕ-discrete a (view m (number k 1) .actor)) (taken-when m (Receive k) e)
     where
@@ -75,7 +75,7 @@ module _ (m : State) (u : Unbroken m) (b : Bounds m) (a : ℕ) (ha : a < 8) wher
       go (yes x) t =
           let i = view m (number k 1) .actor in
           let g : standing (getD (set (m .queues) i (joined (queue m i) (number k 1))) i noQueue) ≡ standing (joined (queue m i) (number k 1)) = ap standing (getD-set-same (m .queues) i (joined (queue m i) (number k 1)) noQueue (omega (arith, u .sized .queues))) in
-          longer (number k 1) (rw x (g ∙ joined-stands (queue m i) (number k 1) (u .queueLong i (omega arith)) (b .receiveRoom k (t .keyIn) (t .unreceived))))
+          longer (number k 1) (rw x (g ∙ joined-stands (queue m i) (number k 1) (u .queueAt i (omega arith) .long) (b .receiveRoom k (t .keyIn) (t .unreceived))))
       go (no x) t = same (ap standing (getD-set-other (m .queues) (view m (number k 1) .actor) a (joined (queue m (view m (number k 1) .actor)) (number k 1)) noQueue x))
   lines (PreCheck i) e = same refl
   lines (SendRecord i) e = same refl
@@ -87,7 +87,7 @@ module _ (m : State) (u : Unbroken m) (b : Bounds m) (a : ℕ) (ha : a < 8) wher
       go : Dec (a ≡ i) → Headed m i 4 → Line m (postChecked m i) a
       go (yes x) g =
           let l : standing (getD (set (m .queues) i (left (queue m i))) i noQueue) ≡ standing (left (queue m i)) = ap standing (getD-set-same (m .queues) i (left (queue m i)) noQueue (omega (arith, u .sized .queues))) in
-          shorter (rw x (left-stands (queue m i) (u .queueLong i (omega arith)) (g .some) (u .queue16 i (omega arith)) ∙ ap (λ (y : List ℕ). head m i ∷ y) (sym l)))
+          shorter (rw x (left-stands (queue m i) (u .queueAt i (omega arith) .long) (g .some) (u .queueAt i (omega arith) .len16) ∙ ap (λ (y : List ℕ). head m i ∷ y) (sym l)))
           (rw (x, getD-set-same (m .views) (head m i) (phased 5 (headView m i)) noView (omega (arith, u .sized .views, u .made16, g .made))))
       go (no x) g = same (ap standing (getD-set-other (m .queues) i a (left (queue m i)) noQueue x))
   lines (TakeRepair k r) e = same refl

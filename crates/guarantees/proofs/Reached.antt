@@ -18,6 +18,7 @@ use Rattle.protocol.specs.declared.View.{View}
 use Rattle.protocol.specs.Outcome.{Outcome}
 use Rattle.unbroken.proofs.Laws.{unbroken, bounds}
 use Rattle.unbroken.proofs.Laws.Every.{table-at}
+use Rattle.unbroken.proofs.Laws.Room.{actors8, sender-made}
 use Rattle.protocol.specs.Rule.{head}
 use Rattle.protocol.specs.Send.{sendNo, sent, sentView, awaitedView, joined, homeLink, received}
 use Rattle.protocol.specs.Crash.{crashed}
@@ -31,7 +32,6 @@ use Rattle.keeps.proofs.Laws.{taken-gives, made-counts}
 use Rattle.keeps.proofs.Onward.{step-onward}
 use Rattle.guarantees.proofs.Which.{Kind, a-send, another, kinds}
 use Rattle.guarantees.proofs.Whole.{Everywhere}
-use Rattle.guarantees.proofs.Heads.{actors8}
 use Rattle.guarantees.proofs.Rules.{Homes, here, sends, receives, pre-checks, sends-record, times-out, takes-record, takes-ack, post-checks, takes-repair, sends-update, takes-update, takes-uack, expires, loses, goes-up-or-down}
 use Rattle.guarantees.proofs.Turns.{turns}
 use Rattle.guarantees.proofs.Queues.{Line, same, longer, shorter, lines, joined-stands}
@@ -110,7 +110,7 @@ module _ (m : State) (c : Reached m) where
       go (old l) =
           let a = turns m u (number k 0) (omega arith) s e in
           let b = turns m u (number k 1) (omega arith) s e in
-          turn-viewlink a (u .senderMade k l) ∙ homes-at k l ∙ sym (home-same s e (view (afterOf m s) (number k 1) .actor) ∙ ap (home m) (turn-actor b))
+          turn-viewlink a (sender-made m u k l) ∙ homes-at k l ∙ sym (home-same s e (view (afterOf m s) (number k 1) .actor) ∙ ap (home m) (turn-actor b))
         where
           homes-at : (i : ℕ) → i < m .made → view m (number i 0) .viewlink ≡ home m (view m (number i 1) .actor)
           homes-at = c .homes
@@ -124,7 +124,7 @@ module _ (m : State) (c : Reached m) where
   unfolding Homes
   unmoved j h f g =
       let a = here m (u .sized) (u .made16) (c .everywhere) j 1 0 h (omega arith) (omega arith) in
-      a .first (rw g refl) f (u .senderMade j h) ∙ homes-at j h
+      a .first (rw g refl) f (sender-made m u j h) ∙ homes-at j h
     where
       homes-at : (i : ℕ) → i < m .made → view m (number i 0) .viewlink ≡ home m (view m (number i 1) .actor)
       homes-at = c .homes
@@ -147,12 +147,12 @@ module _ (m : State) (c : Reached m) where
   new-queue from to own word causes h g =
       let f : from < 8 = omega (arith, actors8 m u) in
       ap standing (getD-set-same (m .queues) from (joined (queue m from) (number (m .made) 0)) noQueue (omega (arith, u .sized .queues)))
-      ∙ joined-stands (queue m from) (number (m .made) 0) (u .queueLong from f) (bounds m (c .fine) .sendRoom from f g)
+      ∙ joined-stands (queue m from) (number (m .made) 0) (u .queueAt from f .long) (bounds m (c .fine) .sendRoom from f g)
 
   queued : (from j : ℕ) → j < m .made → 1 ≤ view m (number j 1) .phase → view m (number j 1) .phase ≢ 5 → view m (number j 1) .actor ≡ from → 1 ≤ times (number j 1) (standing (queue m from))
   queued from j h f n a =
       let v : number j 1 < 32 = omega (arith, u .made16) in
-      let p = u .phase5 (number j 1) (omega arith) in
+      let p = u .viewAt (number j 1) v .phase5 (omega arith) in
       let q = u .queuedOnce (number j 1) v f (omega arith) in
       subst (λ (x : ℕ). 1 ≤ times (number j 1) (standing (queue m x))) a (omega arith)
 
@@ -193,9 +193,9 @@ module _ (m : State) (c : Reached m) where
       go (old l) =
           let a = turns m u (number k 0) (omega arith) s e in
           let d = turn-actor a in
-          let g : bit (view m (number k 0) .causes) j ≡ true = rw (sym (turn-causes a (u .senderMade k l))) b in
-          let i : j < k = omega (arith, u .causeBelow (number k 0) j (omega (arith, u .made16)) hj g) in
-          let q = lines m u (bounds m (c .fine)) (view m (number k 0) .actor) (omega (arith, actors8 m u, u .actorIn (number k 0) (omega arith))) s e in
+          let g : bit (view m (number k 0) .causes) j ≡ true = rw (sym (turn-causes a (sender-made m u k l))) b in
+          let i : j < k = omega (arith, u .viewAt (number k 0) (omega (arith, u .made16)) .causes .below j hj g) in
+          let q = lines m u (bounds m (c .fine)) (view m (number k 0) .actor) (omega (arith, actors8 m u, u .viewAt (number k 0) (omega (arith, u .made16)) .actorIn (omega arith))) s e in
           rw (home-same s e (view (afterOf m s) (number k 0) .actor), d)
           (keep m u s j k hj l a (turns m u (number j 1) (omega arith) s e) g (unmoved j (omega arith))
           (λ x y. still-ahead (afterOf m s) (number j 1) (number k 0) (view m (number k 0) .actor) q x y) (causes-at k l g))

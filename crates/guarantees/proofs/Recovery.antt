@@ -18,6 +18,7 @@ use Rattle.protocol.specs.declared.State.{State}
 use Rattle.protocol.specs.Outcome.{Outcome}
 use Rattle.unbroken.proofs.Laws.{unbroken}
 use Rattle.unbroken.proofs.Laws.Every.{all-each}
+use Rattle.unbroken.proofs.Laws.Room.{stores8}
 use Rattle.protocol.specs.Restart.{restarted}
 use Rattle.protocol.specs.Step.{afterOf, stepOf}
 use Rattle.protocol.specs.declared.Step.{Step}
@@ -28,7 +29,6 @@ use Rattle.keeps.proofs.Laws.{taken-gives}
 use Rattle.reads.proofs.Some.{ran-append, answers-append}
 use Rattle.guarantees.specs.Acknowledged.{after}
 use Rattle.guarantees.specs.Guarantees.{restartsBelow, restarts, Recovery}
-use Rattle.guarantees.proofs.Heads.{stores8}
 use Rattle.guarantees.proofs.Reached.{Reached}
 use Rattle.guarantees.proofs.Acks.{run-reached}
 use Rattle.guarantees.proofs.Demand.{reached}

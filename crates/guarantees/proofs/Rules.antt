@@ -12,8 +12,7 @@ use lib.Seq.{getD-set-same, getD-set-other, set-getD}
 use Rattle.protocol.specs.Words.{pick, one}
 use Rattle.protocol.specs.Slots.{noEntry, noRepair, noMessage, recordCopies, number, place, statusNumber, home, shelf, view, repair, entry, message, contents, viewlink, ackCopies, updateCopies, uackCopies, noView}
 use Rattle.protocol.specs.Writes.{withUpAt, withRecordCopies, withView, withRepair, withEntry, withEntries, withRecords, withLinks, withQueues, withAckCopies, withUpdateCopies, withUackCopies, withViewlink}
-use Rattle.unbroken.specs.EverySlot.{Sized}
-use Rattle.unbroken.specs.Unbroken.{Unbroken}
+use Rattle.unbroken.specs.Unbroken.{Sized, Unbroken}
 use Rattle.protocol.specs.declared.State.{State}
 use Rattle.protocol.specs.declared.View.{View}
 use Rattle.protocol.specs.declared.Repair.{Repair}
@@ -43,9 +42,10 @@ use Rattle.keeps.proofs.Conditions.{taken-when}
 use Rattle.guarantees.proofs.Local
 use Rattle.guarantees.proofs.Local.{Job, Good}
 use Rattle.guarantees.proofs.Whole.{job, jobOf, cell, Here, Everywhere, touched}
+use Rattle.unbroken.proofs.Laws.Room.{stores8, sender-made}
 use Rattle.unbroken.proofs.Shelves.{store-back, turned-link}
 use Rattle.guarantees.proofs.Touches.{withPlace, at-store, at-stores, update-touch, view-touch, repair-touch, entries-touch, entry-touch, place-touch}
-use Rattle.guarantees.proofs.Heads.{stores8, Headed, keyOf, roleOf, and-true, headed}
+use Rattle.guarantees.proofs.Heads.{Headed, keyOf, roleOf, and-true, headed}
 
 written-held : (c : Contents) (w : View) → one (writtenContents c w .held) ≡ 1
 written-held c w = go (c .held) refl
@@ -227,7 +227,7 @@ module _ (m : State) (u : Unbroken m) (inv : Everywhere m) where
       let hp : p < 8 = omega (arith, stores8 m u, t .place .storeIn) in
       let hk = t .place .keyIn in
       let hr = t .place .roleIn in
-      with-acks (withView m (number k r) (ackedView m p (number k r))) (sized-view m (number k r) (ackedView m p (number k r)) z) fits (go (accepts m p (number k r)) refl hp hk hr (t .copy)) k r p hk hr hp (u .viewlinksLong p hp) _ (λ h. omega (arith, t .copy))
+      with-acks (withView m (number k r) (ackedView m p (number k r))) (sized-view m (number k r) (ackedView m p (number k r)) z) fits (go (accepts m p (number k r)) refl hp hk hr (t .copy)) k r p hk hr hp (u .storeAt p hp .long) _ (λ h. omega (arith, t .copy))
     where
       with : View → Type 0
       with w = Everywhere (withView m (number k r) w)
@@ -252,13 +252,13 @@ module _ (m : State) (u : Unbroken m) (inv : Everywhere m) where
       let t = taken-when m (TakeRecord p k r) e in
       let hp : p < 8 = omega (arith, stores8 m u, t .place .storeIn) in
       let hv : number k r < 32 = omega (arith, fits, t .place .keyIn, t .place .roleIn) in
-      let g = u .recordReady p (number k r) hp hv (t .copy) in
+      let g = u .recordAt p (number k r) hp hv .atView (t .copy) in
       let c = writtenContents (contents m p (number k r)) (view m (number k r)) in
       let f : one (c .held) ≡ 1 = written-held (contents m p (number k r)) (view m (number k r)) in
       let n = more (ackCopies m p (number k r)) in
       let l = writtenViewlink (viewlink m p (number k r)) (view m (number k r)) in
       same-slots _ _ _ (m .queues)
-      (simp set-getD at (by-place m z fits inv k r (t .place .keyIn) (t .place .roleIn) p hp (u .viewlinksLong p hp) c l n (updateCopies m p (number k r)) (uackCopies m p (number k r))
+      (simp set-getD at (by-place m z fits inv k r (t .place .keyIn) (t .place .roleIn) p hp (u .storeAt p hp .long) c l n (updateCopies m p (number k r)) (uackCopies m p (number k r))
       (λ a b. rw f (Local.recorded-me a b g n)) (λ a b. rw f (Local.recorded-ot a b g n))))
 
   -- 10, 13: an entry's status
@@ -276,8 +276,8 @@ module _ (m : State) (u : Unbroken m) (inv : Everywhere m) where
       let h : 0 < statusNumber (entry m (number k r) .status) = omega (arith, ap statusNumber (t .due)) in
       let w = inStatus Waiting (entry m (number k r)) in
       let p = entry m (number k r) .destination in
-      let hp : p < 8 = omega (arith, stores8 m u, u .entryDestinationIn (number k r) hv h) in
-      with-updates (withEntry m (number k r) w) (sized-entry m (number k r) w z) fits (with-status k r 2 w (t .view .keyIn) (t .view .roleIn) h refl (omega arith) (omega arith) refl refl) k r p (t .view .keyIn) (t .view .roleIn) hp (u .viewlinksLong p hp) _
+      let hp : p < 8 = omega (arith, stores8 m u, u .entryAt (number k r) hv .destinationIn h) in
+      with-updates (withEntry m (number k r) w) (sized-entry m (number k r) w z) fits (with-status k r 2 w (t .view .keyIn) (t .view .roleIn) h refl (omega arith) (omega arith) refl refl) k r p (t .view .keyIn) (t .view .roleIn) hp (u .storeAt p hp .long) _
       (λ x. rw (getD-set-same (m .entries) (number k r) w noEntry (omega (arith, z .entries))) (omega arith))
 
   pub expires : (k r : ℕ) → expireNo m k r ≡ 0 → Everywhere (expired m k r)
@@ -300,10 +300,10 @@ module _ (m : State) (u : Unbroken m) (inv : Everywhere m) where
           (pick c (withUpdateCopies m p (number k r) (pick a (recordCopies m p (number k r)) (pick b (ackCopies m p (number k r)) (pick c (updateCopies m p (number k r)) (uackCopies m p (number k r)))) - 1))
           (withUackCopies m p (number k r) (pick a (recordCopies m p (number k r)) (pick b (ackCopies m p (number k r)) (pick c (updateCopies m p (number k r)) (uackCopies m p (number k r)))) - 1)))))
       go true b c hp hk hr = same-slots m _ (m .links) (m .queues) inv
-      go false true c hp hk hr = with-acks m z fits inv k r p hk hr hp (u .viewlinksLong p hp) _ (λ h. omega arith)
+      go false true c hp hk hr = with-acks m z fits inv k r p hk hr hp (u .storeAt p hp .long) _ (λ h. omega arith)
       go false false true hp hk hr =
-          with-updates m z fits inv k r p hk hr hp (u .viewlinksLong p hp) _ (λ h. u .updateEntry p (number k r) hp (omega arith) (omega arith))
-      go false false false hp hk hr = with-uacks m z fits inv k r p hk hr hp (u .viewlinksLong p hp) _ (λ h. omega arith)
+          with-updates m z fits inv k r p hk hr hp (u .storeAt p hp .long) _ (λ h. u .updateAt p (number k r) hp (omega arith) .atView (omega arith))
+      go false false false hp hk hr = with-uacks m z fits inv k r p hk hr hp (u .storeAt p hp .long) _ (λ h. omega arith)
 
   -- 15, 16
   pub goes-up-or-down : (p : ℕ) (b : Bool) → Everywhere (withUpAt m p b)
@@ -320,7 +320,7 @@ module _ (m : State) (u : Unbroken m) (inv : Everywhere m) where
       let hk = t .place .keyIn in
       let hr = t .place .roleIn in
       with-uacks (withEntry m (number k r) (finishedEntry p (entry m (number k r)))) (sized-entry m (number k r) (finishedEntry p (entry m (number k r))) z) fits
-      (go (eqb (statusNumber (entry m (number k r) .status)) 2 && eqb (entry m (number k r) .destination) p) refl hp hk hr (t .copy)) k r p hk hr hp (u .viewlinksLong p hp) _ (λ h. omega (arith, t .copy))
+      (go (eqb (statusNumber (entry m (number k r) .status)) 2 && eqb (entry m (number k r) .destination) p) refl hp hk hr (t .copy)) k r p hk hr hp (u .storeAt p hp .long) _ (λ h. omega (arith, t .copy))
     where
       with : Entry → Type 0
       with x = Everywhere (withEntry m (number k r) x)
@@ -354,7 +354,7 @@ module _ (m : State) (u : Unbroken m) (inv : Everywhere m) where
       let a = here m z fits inv k r p hk hr hp in
       let b = there m z fits inv k r p hk hr hp in
       let s = a .updateEntry (t .copy) in
-      touched m (updateTaken m p k r) k r _ _ _ _ hr (update-touch m z k r (omega (arith, fits)) hr p hp (u .viewlinksLong p hp) l n y) (λ j h x. h) fits inv
+      touched m (updateTaken m p k r) k r _ _ _ _ hr (update-touch m z k r (omega (arith, fits)) hr p hp (u .storeAt p hp .long) l n y) (λ j h x. h) fits inv
       (at-stores (λ q x x′. Good (job m (number k r)) x (job m (number k (1 - r))) x′ (message m k .own) q) p _ _ (λ q. cell m q (number k r)) (λ q. cell m q (number k (1 - r))) (Local.updated-me a b s n y) (λ q hq. here m z fits inv k r q hk hr hq))
       (at-stores (λ q x x′. Good (job m (number k (1 - r))) x′ (job m (number k r)) x (message m k .own) q) p _ _ (λ q. cell m q (number k r)) (λ q. cell m q (number k (1 - r))) (Local.updated-ot a b s n y) (λ q hq. there m z fits inv k r q hk hr hq))
 
@@ -409,30 +409,30 @@ module _ (m : State) (u : Unbroken m) (inv : Everywhere m) where
         farSent = λ j f. rw (getD-set-other (m .messages) k j noMessage noMessage f);
       })
       (λ j h x. h) fits inv
-      (λ p hp. Local.received-me (here m z fits inv k 1 p hk (omega arith) hp) (there m z fits inv k 1 p hk (omega arith) hp) (t .unreceived) (home m (view m (number k 1) .actor)) _ (sym (homes k hk)) (u .senderMade k hk))
-      (λ p hp. Local.received-ot (here m z fits inv k 1 p hk (omega arith) hp) (there m z fits inv k 1 p hk (omega arith) hp) (t .unreceived) (home m (view m (number k 1) .actor)) _ (sym (homes k hk)) (u .senderMade k hk))
+      (λ p hp. Local.received-me (here m z fits inv k 1 p hk (omega arith) hp) (there m z fits inv k 1 p hk (omega arith) hp) (t .unreceived) (home m (view m (number k 1) .actor)) _ (sym (homes k hk)) (sender-made m u k hk))
+      (λ p hp. Local.received-ot (here m z fits inv k 1 p hk (omega arith) hp) (there m z fits inv k 1 p hk (omega arith) hp) (t .unreceived) (home m (view m (number k 1) .actor)) _ (sym (homes k hk)) (sender-made m u k hk))
 
   -- 1: at a view that isn't made there is nothing
   module _ (v : ℕ) (h : v < 32) (far : m .made * 2 ≤ v) where
     no-flight : one (repair m v .flying) ≡ 0
-    no-flight = one-zero (repair m v .flying) (λ e. omega (arith, u .repairSettled v h e, u .phaseBlank v h far))
+    no-flight = one-zero (repair m v .flying) (λ e. omega (arith, u .repairAt v h .settled e, u .viewAt v h .phaseBlank far))
 
     no-status : statusNumber (entry m v .status) ≡ 0
-    no-status = Local.none (λ e. omega (arith, u .entrySettled v h e, u .phaseBlank v h far))
+    no-status = Local.none (λ e. omega (arith, u .entryAt v h .settled e, u .viewAt v h .phaseBlank far))
 
     unmade-job : (w : View) → jobOf w (repair m v) (entry m v)
         ≡ record { phase = w .phase; store = w .store; viewlink = w .viewlink; changed = one (w .changed); flying = 0; repairTo = 0; repairOwn = 0; status = 0; destination = 0; own = 0 }
     unmade-job w =
-        rw (no-flight, no-status, u .repairDestinationBlank v h (one-false _ no-flight), u .repairOwnBlank v h (one-false _ no-flight), u .entryDestinationBlank v h no-status, u .entryOwnBlank v h no-status)
+        rw (no-flight, no-status, u .repairAt v h .blank (one-false _ no-flight), u .entryAt v h .blank no-status)
 
     unmade-cell : (p : ℕ) → p < 8 → cell m p v ≡ Local.blankCell
     unmade-cell p hp =
-        let f = u .phaseBlank v h far in
-        let a : one (contents m p v .held) ≡ 0 = one-zero (contents m p v .held) (λ e. omega (arith, u .contentsReady p v hp h e)) in
-        let b : viewlink m p v ≡ 0 = Local.none (λ e. omega (arith, u .heldViewlinkMade p v hp h e)) in
-        let c : ackCopies m p v ≡ 0 = Local.none (λ e. omega (arith, u .ackReady p v hp h e)) in
-        let d : updateCopies m p v ≡ 0 = Local.none (λ e. omega (arith, u .updateEntry p v hp h e, no-status)) in
-        let g : uackCopies m p v ≡ 0 = Local.none (λ e. omega (arith, u .uackEntry p v hp h e, no-status)) in
+        let f = u .viewAt v h .phaseBlank far in
+        let a : one (contents m p v .held) ≡ 0 = one-zero (contents m p v .held) (λ e. omega (arith, u .contentsAt p v hp h .ready e)) in
+        let b : viewlink m p v ≡ 0 = Local.none (λ e. omega (arith, u .storeAt p hp .linkAt v h .atView e)) in
+        let c : ackCopies m p v ≡ 0 = Local.none (λ e. omega (arith, u .ackAt p v hp h .atView e)) in
+        let d : updateCopies m p v ≡ 0 = Local.none (λ e. omega (arith, u .updateAt p v hp h .atView e, no-status)) in
+        let g : uackCopies m p v ≡ 0 = Local.none (λ e. omega (arith, u .uackAt p v hp h .atView e, no-status)) in
         rw (a, b, c, d, g)
 
   pub sends : (from to own word causes : ℕ) → sendNo m from to own causes ≡ 0 → Everywhere (sent m from to own word causes)

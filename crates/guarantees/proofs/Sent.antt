@@ -22,6 +22,7 @@ use Rattle.protocol.specs.declared.Message.{Message}
 use Rattle.protocol.specs.declared.Setup.{Setup}
 use Rattle.protocol.specs.Outcome.{Outcome}
 use Rattle.unbroken.proofs.Laws.{unbroken}
+use Rattle.unbroken.proofs.Laws.Room.{sender-made}
 use Rattle.protocol.specs.Send.{sent}
 use Rattle.protocol.specs.Receive.{receivedOf, receivedView}
 use Rattle.protocol.specs.PreCheck.{preChecked}
@@ -137,8 +138,8 @@ module _ (m : State) (c : Reached m) where
         record {
           from = a .actor ∙ t .from;
           to = b .actor ∙ t .to;
-          word = a .word (u .senderMade k h) ∙ t .word;
-          causes = a .causes (u .senderMade k h) ∙ t .causes;
+          word = a .word (sender-made m u k h) ∙ t .word;
+          causes = a .causes (sender-made m u k h) ∙ t .causes;
           flying = λ e. ap (λ (y : Message). y .word) (unread e) ∙ t .flying (before b e (ℕ-discrete (view m (number k 1) .phase) 0));
           heard = λ e. after-all b e (ℕ-discrete (view m (number k 1) .phase) 0);
         }
@@ -270,9 +271,9 @@ as-sent =
           let x = told-on u l steps further k (t .made) in
           record {
             held = n .held;
-            asserter = y .sameActor p (number k 0) (n .low) v (n .held) ∙ x .from;
-            word = y .sameWord p (number k 0) (n .low) v (n .held) ∙ x .word;
-            causes = y .sameCauses p (number k 0) (n .low) v (n .held) ∙ x .causes;
+            asserter = y .contentsAt p (number k 0) (n .low) v .sameActor (n .held) ∙ x .from;
+            word = y .contentsAt p (number k 0) (n .low) v .sameWord (n .held) ∙ x .word;
+            causes = y .contentsAt p (number k 0) (n .low) v .sameCauses (n .held) ∙ x .causes;
           };
       receiver = λ u l steps further k p a.
           let t = acked-at u l steps k 1 p (omega arith) a in
@@ -282,8 +283,8 @@ as-sent =
           let x = told-on u l steps further k (t .made) in
           record {
             held = n .held;
-            asserter = y .sameActor p (number k 1) (n .low) v (n .held) ∙ x .to;
-            word = y .sameWord p (number k 1) (n .low) v (n .held) ∙ x .heard (omega (arith, n .past));
-            causes = y .sameCauses p (number k 1) (n .low) v (n .held) ∙ y .receiverCauses k (n .made);
+            asserter = y .contentsAt p (number k 1) (n .low) v .sameActor (n .held) ∙ x .to;
+            word = y .contentsAt p (number k 1) (n .low) v .sameWord (n .held) ∙ x .heard (omega (arith, n .past));
+            causes = y .contentsAt p (number k 1) (n .low) v .sameCauses (n .held) ∙ y .viewAt (number k 1) v .receiverCauses (omega (arith, n .made)) (omega arith);
           };
     }

@@ -6,15 +6,15 @@ use native.Mathlib.Omega.{arith}
 use native.Mathlib.Decide.{ℕ-discrete, decLt}
 use borrow.Author.Tests.{eqb-true}
 use lib.Dec.{eqb}
-use lib.ListN.{List·getD-eq-default}
 use Rattle.protocol.specs.Words.{pick}
-use Rattle.protocol.specs.Slots.{number, view, noView}
+use Rattle.protocol.specs.Slots.{number, view}
 use Rattle.protocol.specs.Setup.{answered}
 use Rattle.protocol.specs.Broken.{brokenOf}
 use Rattle.unbroken.specs.Unbroken.{Unbroken}
 use Rattle.protocol.specs.declared.State.{State}
 use Rattle.protocol.specs.declared.View.{View}
 use Rattle.unbroken.proofs.Laws.{unbroken}
+use Rattle.unbroken.proofs.Laws.Room.{unmade-view}
 use Rattle.protocol.specs.declared.Step.the-variants.{Send}
 use Rattle.keeps.proofs.Conditions.{taken-when}
 use Rattle.keeps.proofs.Keeps.{keeps}
@@ -40,13 +40,6 @@ pub record Unmade (m n : State) (v : ℕ) : Type 0 where
 pub data Move (m : State) (s : Step) (n : State) (v : ℕ) : Type 0 where
   turns-to : Turn m s v (view n v) → Move m s n v
   unmade : Unmade m n v → Move m s n v
-
-blank-view : (m : State) → Unbroken m → (v : ℕ) → m .made * 2 ≤ v → view m v .phase ≡ 0
-blank-view m u v h = go (decLt v 32)
-  where
-    go : Dec (v < 32) → view m v .phase ≡ 0
-    go (yes l) = u .phaseBlank v l h
-    go (no n) = ap (λ (w : View). w .phase) (List·getD-eq-default (m .views) noView (omega (arith, u .sized .views)))
 
 pub step-reached : (m : State) → Reached m → (s : Step) → Reached (stepOf m s .state)
 step-reached m c s =
@@ -74,7 +67,7 @@ made-view m c s e v h = go (decLt v (afterOf m s .made * 2))
 
     go : Dec (v < afterOf m s .made * 2) → view (afterOf m s) v .phase ≤ 1
     go (yes l) = fresh (key m s (v / 2) (omega arith))
-    go (no n) = let b = blank-view (afterOf m s) (unbroken (afterOf m s) (keeps m s (c .fine) e)) v (omega arith) in omega arith
+    go (no n) = let b = unmade-view (afterOf m s) (unbroken (afterOf m s) (keeps m s (c .fine) e)) v (omega arith) in omega arith
 
 pub moves : (m : State) → Reached m → (s : Step) (v : ℕ) → Move m s (stepOf m s .state) v
 moves m c s v = go (decLt v (m .made * 2))
@@ -85,5 +78,5 @@ moves m c s v = go (decLt v (m .made * 2))
     go : Dec (v < m .made * 2) → Move m s (stepOf m s .state) v
     go (yes l) = turns-to (by-step (λ n. Turn m s v (view n v)) m s (c .fine) stays (λ e. turns m u v l s e))
     go (no n) =
-        let b = blank-view m u v (omega arith) in
+        let b = unmade-view m u v (omega arith) in
         unmade (record { before = b; behind = by-step (λ k. view k v .phase ≤ 1) m s (c .fine) (omega arith) (λ e. made-view m c s e v (omega arith)) })

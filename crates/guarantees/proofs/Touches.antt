@@ -11,7 +11,7 @@ use lib.Seq.{getD-set-same, getD-set-other}
 use Rattle.protocol.specs.Words.{pick, one}
 use Rattle.protocol.specs.Slots.{number, place, shelf, view, repair, entry, contents, ackCopies, noView, noRepair, noEntry, noContents}
 use Rattle.protocol.specs.Writes.{withView, withRepair, withEntry, withEntries, withAckCopies, withUpdateCopies, withUackCopies, withContentsAt, withViewlink}
-use Rattle.unbroken.specs.EverySlot.{Sized}
+use Rattle.unbroken.specs.Unbroken.{Sized}
 use Rattle.protocol.specs.declared.State.{State}
 use Rattle.protocol.specs.declared.View.{View}
 use Rattle.protocol.specs.declared.Repair.{Repair}

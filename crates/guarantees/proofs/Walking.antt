@@ -89,7 +89,7 @@ module _ (m : State) (c : Reached m) (Q : ℕ → Type 0) (z : Closing m Q) wher
     causes-held : causesHeld m k (view m (number k 0) .store + 1) ≡ view m (number k 0) .causes
     causes-held =
         ap (λ (p : ℕ). contents m p (number k 0) .causes) at-store
-        ∙ (u .sameCauses (view m (number k 0) .store) (number k 0) (sender .low) hv (sender .held))
+        ∙ (u .contentsAt (view m (number k 0) .store) (number k 0) (sender .low) hv .sameCauses (sender .held))
 
     cause-in : (j : ℕ) → j < 16 → bit (view m (number k 0) .causes) j ≡ true → Q j
     cause-in j hj b = z .causes k j q (record { low = hj; set = b })
@@ -100,7 +100,7 @@ module _ (m : State) (c : Reached m) (Q : ℕ → Type 0) (z : Closing m Q) wher
     hop j hj b =
         let p = view m (number k 0) .store in
         let r = closed-of m j (z .closed j (cause-in j hj b)) in
-        let a : getD (causeLinks m p k) j 0 ≡ view m (number j 1) .store = u .sameLinks p k j (sender .low) (omega (arith, hk, u .made16)) hj (sender .held) ∙ causes-at k j hk hj b .right (omega (arith, rests .0 .phase)) in
+        let a : getD (causeLinks m p k) j 0 ≡ view m (number j 1) .store = u .linksAt p k (sender .low) (omega (arith, hk, u .made16)) .sameLinks j hj (sender .held) ∙ causes-at k j hk hj b .right (omega (arith, rests .0 .phase)) in
         rw (at-store, a, there m c j 1 (omega arith) (omega (arith, r .1 .phase)) .held) (accurate m u (c .everywhere) j 1 (omega arith) (r .1) (r .0))
 
   each-fine : (visit : ℕ → Met → Met) (causes n j : ℕ) (w : Met) → ((i : ℕ) (x : Met) → i < j + n → bit causes i ≡ true → x .fine ≡ true → visit i x .fine ≡ true) → w .fine ≡ true → each visit causes n j w .fine ≡ true
@@ -220,7 +220,7 @@ module _ (u : Setup) (l : Legal u) (steps : List Step) where
   set-sent k j h s = record { low = s .low; set = rw (← told u l steps k h .causes) (s .set) }
 
   lower : (k j : ℕ) → k < after u steps .made → Cause′ (after u steps) k j → j < after u steps .made
-  lower k j h s = omega (arith, x .causeBelow (number k 0) j (omega (arith, x .made16)) (s .low) (s .set))
+  lower k j h s = omega (arith, x .viewAt (number k 0) (omega (arith, x .made16)) .causes .below j (s .low) (s .set))
 
   to-sent : (k i : ℕ) → k < after u steps .made → Reach (after u steps) k i → SentReach u steps k i
   to-sent k i h Reach.here = SentReach.here

@@ -12,14 +12,14 @@ use Rattle.protocol.specs.Words.{pick}
 use Rattle.protocol.specs.Slots.{number, place, noView, noEntry, noContents, statusNumber, view, queue, entry, recordCopies, ackCopies, updateCopies, uackCopies, contents, viewlink}
 use Rattle.protocol.specs.Writes.{withView, withEntry, withEntries, withViewlink, withAckCopies, withUackCopies, withRecordCopies, withUpdateCopies}
 use Rattle.protocol.specs.Broken.{brokenOf}
-use Rattle.unbroken.specs.EverySlot.{EverySlot}
+use Rattle.unbroken.specs.Unbroken.{Unbroken}
 use Rattle.protocol.specs.declared.State.{State}
 use Rattle.protocol.specs.declared.View.{View}
 use Rattle.protocol.specs.declared.Entry.{Entry}
 use Rattle.protocol.specs.declared.Contents.{Contents}
 use Rattle.protocol.specs.declared.Status.{Status}
 use Rattle.protocol.specs.declared.Status.the-variants.{ToSend, Waiting, Done}
-use Rattle.unbroken.proofs.Laws.{slots}
+use Rattle.unbroken.proofs.Laws.{unbroken}
 use Rattle.unbroken.proofs.Laws.Tests.{and-left, and-right}
 use Rattle.unbroken.proofs.Laws.Says.{eq-says, zero-splits, not-says, and-says}
 use Rattle.protocol.specs.Views.{phased}
@@ -56,21 +56,21 @@ use Rattle.keeps.proofs.Send.{send-kept}
 use Rattle.keeps.proofs.Cases.{pick-case, step-case}
 
 -- each change keeps every slot
-head-kept : (m : State) → EverySlot m → (a : ℕ) (w : View) → HeadMove m a w → EverySlot (withView m (head m a) w)
+head-kept : (m : State) → Unbroken m → (a : ℕ) (w : View) → HeadMove m a w → Unbroken (withView m (head m a) w)
 unfolding preChecked timedOut
 head-kept m s a w (isChecked h) = pre-check-kept m s a h
 head-kept m s a w (isSent h) = phase-write m s a (h .actorIn) (h .queued) 3 (omega arith) (omega arith)
 head-kept m s a w (isMoved p t) = timeout-kept m s a p t
 head-kept m s a w (isAcked p h e c) = phase-write m s a (h .actorIn) (h .queued) 4 (omega arith) (omega arith)
 
-module _ (m : State) (s : EverySlot m) where
+module _ (m : State) (s : Unbroken m) where
   place-8 : (p k r : ℕ) → PlaceOf m p k r → p < 8
   place-8 p k r o = store-8 m s p (o .storeIn)
 
   view-32 : (p k r : ℕ) → PlaceOf m p k r → number k r < 32
   view-32 p k r o = number-32 m s k r (o .keyIn) (o .roleIn)
 
-  flight-kept : (records acks updates uacks : List ℕ) → FlightMove m records acks updates uacks → EverySlot (withFlight m records acks updates uacks)
+  flight-kept : (records acks updates uacks : List ℕ) → FlightMove m records acks updates uacks → Unbroken (withFlight m records acks updates uacks)
   flight-kept records acks updates uacks (recordComes p v hs hm e f) =
       let hp = store-8 m s p hs in
       let few = s .made16 in
@@ -94,7 +94,7 @@ module _ (m : State) (s : EverySlot m) where
   flight-kept records acks updates uacks (uackGoes p k r o c) =
       uack-write m s p (number k r) (place-8 p k r o) (view-32 p k r o) (uackCopies m p (number k r) - 1) (fewer-copies (s .uackAt p (number k r) (place-8 p k r o) (view-32 p k r o)))
 
-  link-kept : (p k v link : ℕ) → p < m .stores → k < m .made → LinkMove m p k v link → EverySlot (withViewlink m p v link)
+  link-kept : (p k v link : ℕ) → p < m .stores → k < m .made → LinkMove m p k v link → Unbroken (withViewlink m p v link)
   link-kept p k v link hs hk (isWritten r hr c h) =
       let hp = store-8 m s p hs in
       let hv = number-32 m s k r hk hr in
@@ -107,12 +107,12 @@ module _ (m : State) (s : EverySlot m) where
       viewlink-write m s p (number k (1 - r)) hp (number-32 m s k (1 - r) hk (omega arith)) (entry m (number k r) .own + 1)
       (record { linkIn = omega arith; atStore = λ h. hs; atView = λ h. omega arith })
 
-  status-kept : (v : ℕ) → v < 32 → (t : Status) → StatusMove m v t → EverySlot (withEntry m v (inStatus t (entry m v)))
+  status-kept : (v : ℕ) → v < 32 → (t : Status) → StatusMove m v t → Unbroken (withEntry m v (inStatus t (entry m v)))
   status-kept v h t (isWaiting e) = let n = ap statusNumber e in status-write m s v h Waiting (omega arith) (omega arith)
   status-kept v h t (isExpired e) = let n = ap statusNumber e in status-write m s v h ToSend (omega arith) (omega arith)
   status-kept v h t (isDone p hp e d c) = let n = ap statusNumber e in status-write m s v h Done (omega arith) (omega arith)
 
-pub change-kept : (m n : State) → EverySlot m → Change m n → EverySlot n
+pub change-kept : (m n : State) → Unbroken m → Change m n → Unbroken n
 change-kept m n s (onUp p b h) = up-write m s p b (store-8 m s p h) (λ k. absurd (omega arith))
 change-kept m n s (onSend from to own word causes c) = send-kept m s from to own word causes c
 change-kept m n s (onReceive k c) = receive-kept m s k c
@@ -140,7 +140,7 @@ fewerOf m p v a b c =
 choose : {A : Type 0} (m : State) (write : A → State) (c : Bool) (x y : A) → (c ≡ true → Changes m (write x)) → write y ≡ m → Changes m (write (pick c x y))
 choose m write c x y f e = pick-case (λ z. Changes m (write z)) c x y f (λ b. subst (Changes m) (sym e) nothing)
 
-module _ (m : State) (s : EverySlot m) where
+module _ (m : State) (s : Unbroken m) where
   send-record-changes : (a : ℕ) → HeadIn 2 m a → Changes m (recordSent m a)
   unfolding recordSent
   send-record-changes a h =
@@ -283,7 +283,7 @@ module _ (m : State) (s : EverySlot m) where
       go false false false h = one m _ (onFlight (m .records) (m .acks) (m .updates) _ (uackGoes p k r o h))
 
 -- the walk through the kinds
-pub taken-changes : (m : State) (s : Step) → EverySlot m → Taken m s → Changes m (afterOf m s)
+pub taken-changes : (m : State) (s : Step) → Unbroken m → Taken m s → Changes m (afterOf m s)
 unfolding preChecked timedOut expired crashed restarted
 taken-changes m (Send from to own word causes) e c = one m _ (onSend from to own word causes c)
 taken-changes m (Receive k) e c = one m _ (onReceive k c)
@@ -303,23 +303,23 @@ taken-changes m (Crash p) e c = one m _ (onUp p false (c .storeIn))
 taken-changes m (Restart p) e c = one m _ (onUp p true (c .storeIn))
 
 -- every slot is kept through a chain of changes
-pub changes-kept : (m n : State) → EverySlot m → Changes m n → EverySlot n
+pub changes-kept : (m n : State) → Unbroken m → Changes m n → Unbroken n
 changes-kept m n s nothing = s
 changes-kept m n s (then k o c d) = change-kept k o (changes-kept m k s c) d
 
 -- a relation that holds of every change, and of nothing and of one after the other, holds of every step
 module _ (R : State → State → Type 0) (still : (m : State) → R m m) (after : (m n o : State) → R m n → R n o → R m o)
-    (each : (m n : State) → EverySlot m → Change m n → R m n) where
-  chain : (m n : State) → EverySlot m → Changes m n → R m n
+    (each : (m n : State) → Unbroken m → Change m n → R m n) where
+  chain : (m n : State) → Unbroken m → Changes m n → R m n
   chain m n s nothing = still m
   chain m n s (then k o c d) = after m k o (chain m k s c) (each k o (changes-kept m k s c) d)
 
   pub taken-related : (m : State) (s : Step) → brokenOf m ≡ false → numberOf m s ≡ 0 → R m (afterOf m s)
-  taken-related m s e z = let u = slots m e in chain m (afterOf m s) u (taken-changes m s u (taken-when m s z))
+  taken-related m s e z = let u = unbroken m e in chain m (afterOf m s) u (taken-changes m s u (taken-when m s z))
 
   pub step-related : (m : State) (s : Step) → R m (stepOf m s .state)
   step-related m s = step-case m s (λ x. R m (x .state)) (λ e. still m) (λ e z. taken-related m s e z) (λ e n. still m)
 
 -- a property that every change keeps, every step keeps
-pub step-has : (P : State → Type 0) → ((m n : State) → EverySlot m → Change m n → P m → P n) → (m : State) (s : Step) → P m → P (stepOf m s .state)
+pub step-has : (P : State → Type 0) → ((m n : State) → Unbroken m → Change m n → P m → P n) → (m : State) (s : Step) → P m → P (stepOf m s .state)
 step-has P keep m s = step-related (λ a b. P a → P b) (λ a x. x) (λ a b c f g x. g (f x)) keep m s

@@ -6,7 +6,7 @@ use lib.Seq.{getD-set-other}
 use Rattle.protocol.specs.Words.{pick}
 use Rattle.protocol.specs.Slots.{number, statusNumber, view, repair, entry, noEntry, noRepair}
 use Rattle.protocol.specs.Writes.{withEntry}
-use Rattle.unbroken.specs.EverySlot.{EntrySlot, EverySlot}
+use Rattle.unbroken.specs.Unbroken.{EntrySlot, Unbroken}
 use Rattle.protocol.specs.declared.State.{State}
 use Rattle.protocol.specs.declared.Entry.{Entry}
 use Rattle.protocol.specs.declared.Status.{Status}
@@ -26,21 +26,20 @@ status-slot t e some some′ c =
       settled = λ h. c .settled some;
       destinationIn = λ h. c .destinationIn some;
       ownIn = λ h. c .ownIn some;
-      destinationBlank = λ h. absurd (omega arith);
-      ownBlank = λ h. absurd (omega arith);
+      blank = λ h. absurd (omega arith);
     }
 
 to-send-slot : (stores phase destination own : ℕ) → phase ≡ 5 → destination < stores → own < stores → EntrySlot stores phase (toSend destination own)
 to-send-slot stores phase destination own e h k =
-    record { settled = λ b. e; destinationIn = λ b. h; ownIn = λ b. k; destinationBlank = λ b. absurd (omega arith); ownBlank = λ b. absurd (omega arith) }
+    record { settled = λ b. e; destinationIn = λ b. h; ownIn = λ b. k; blank = λ b. absurd (omega arith) }
 
-module _ (m : State) (s : EverySlot m) where
+module _ (m : State) (s : Unbroken m) where
   -- 10, 12, 13: the entry's status
-  pub status-write : (v : ℕ) → v < 32 → (t : Status) → 1 ≤ statusNumber (entry m v .status) → 1 ≤ statusNumber t → EverySlot (withEntry m v (inStatus t (entry m v)))
+  pub status-write : (v : ℕ) → v < 32 → (t : Status) → 1 ≤ statusNumber (entry m v .status) → 1 ≤ statusNumber t → Unbroken (withEntry m v (inStatus t (entry m v)))
   status-write v hv t some some′ = entry-write m s v hv (inStatus t (entry m v)) (status-slot t (entry m v) some some′ (s .entryAt v hv)) (λ h. some′)
 
   -- 9
-  pub take-repair-kept : (k r : ℕ) → TakeRepairTaken m k r → EverySlot (repairTaken m k r)
+  pub take-repair-kept : (k r : ℕ) → TakeRepairTaken m k r → Unbroken (repairTaken m k r)
   unfolding repairTaken
   take-repair-kept k r c =
       let v = number k r in

@@ -9,7 +9,7 @@ use lib.ListN.{getD, set}
 use Rattle.protocol.specs.Words.{times}
 use Rattle.protocol.specs.Slots.{noView, standing, view, queue}
 use Rattle.protocol.specs.Writes.{withView}
-use Rattle.unbroken.specs.EverySlot.{ViewSlot, QueueSlot, EverySlot}
+use Rattle.unbroken.specs.Unbroken.{ViewSlot, QueueSlot, Unbroken}
 use Rattle.protocol.specs.declared.State.{State}
 use Rattle.protocol.specs.declared.View.{View}
 use Rattle.unbroken.proofs.Laws.Counting.{times-two}
@@ -17,12 +17,14 @@ use Rattle.unbroken.proofs.Laws.Room.{actors8, view-32, made-view, standing-lon
 use Rattle.protocol.specs.Rule.{head, headView}
 use Rattle.keeps.proofs.Jobs.{Job, job-at, jobs-kept, read-view, actor-same, one-job, views-long, message-same}
 
--- a view in phases 1 to 4 goes on, to phase 2 or further: what it says stays, and its links unless it is checked first
-module _ (m : State) (s : EverySlot m) (v : ℕ) (h : v < 32) (old : view m v .phase ≤ 4) (w : View) where
-  pub moved-job : ViewSlot (m .stores) (m .actors) (m .made) (view m (v - 1) .actor) v w → 2 ≤ w .phase
-      → w .actor ≡ view m v .actor → w .causes ≡ view m v .causes → w .word ≡ view m v .word → (2 ≤ view m v .phase → w .links ≡ view m v .links)
-      → Job m (m .made) (view m (v - 1) .actor) v w
-  moved-job x ready actor causes word links =
+-- a view that a store may hold has gone on, and says what it said
+abbrev pub GoesOn : View → View → Type 0
+GoesOn o w = (2 ≤ w .phase) × (w .actor ≡ o .actor) × (w .causes ≡ o .causes) × (w .word ≡ o .word) × (w .links ≡ o .links)
+
+-- a view in phases 0 to 4 goes on: in phases 0 and 1 no store holds it, so that it may be another
+module _ (m : State) (s : Unbroken m) (v : ℕ) (h : v < 32) (old : view m v .phase ≤ 4) (made sender : ℕ) (w : View) where
+  pub moved-job : ViewSlot (m .stores) (m .actors) made sender v w → (2 ≤ view m v .phase → GoesOn (view m v) w) → Job m made sender v w
+  moved-job x on =
       let o = job-at m s v h in
       let settled : view m v .phase ≡ 5 → ⊥ = λ e. omega arith in
       record {
@@ -31,36 +33,32 @@ module _ (m : State) (s : EverySlot m) (v : ℕ) (h : v < 32) (old : view m v .p
           settled = λ f. absurd (settled (r .settled f));
           destinationIn = r .destinationIn;
           ownIn = r .ownIn;
-          destinationBlank = r .destinationBlank;
-          ownBlank = r .ownBlank;
+          blank = r .blank;
         });
         entrySlot = (let r = o .entrySlot in record {
           settled = λ f. absurd (settled (r .settled f));
           destinationIn = r .destinationIn;
           ownIn = r .ownIn;
-          destinationBlank = r .destinationBlank;
-          ownBlank = r .ownBlank;
+          blank = r .blank;
         });
-        recordSlot = λ p hp. let r = o .recordSlot p hp in record { copies15 = r .copies15; atStore = r .atStore; atView = λ b. ready };
-        ackSlot = λ p hp. let r = o .ackSlot p hp in record { copies15 = r .copies15; atStore = r .atStore; atView = λ b. ready };
+        recordSlot = λ p hp. let r = o .recordSlot p hp in record { copies15 = r .copies15; atStore = r .atStore; atView = λ b. on (r .atView b) .0 };
+        ackSlot = λ p hp. let r = o .ackSlot p hp in record { copies15 = r .copies15; atStore = r .atStore; atView = λ b. on (r .atView b) .0 };
         contentsSlot = λ p hp. let r = o .contentsSlot p hp in record {
           atStore = r .atStore;
-          ready = λ e. ready;
-          sameActor = λ e. r .sameActor e ∙ sym actor;
-          sameCauses = λ e. r .sameCauses e ∙ sym causes;
-          sameWord = λ e. r .sameWord e ∙ sym word;
-          actorBlank = r .actorBlank;
-          causesBlank = r .causesBlank;
-          wordBlank = r .wordBlank;
+          ready = λ e. on (r .ready e) .0;
+          sameActor = λ e. r .sameActor e ∙ sym (on (r .ready e) .1);
+          sameCauses = λ e. r .sameCauses e ∙ sym (on (r .ready e) .2);
+          sameWord = λ e. r .sameWord e ∙ sym (on (r .ready e) .3);
+          blank = r .blank;
         };
         linksSlot = λ p k hp hk e. let r = o .linksSlot p k hp hk e in record {
           long = r .long;
-          sameLinks = λ j b f. r .sameLinks j b f ∙ ap (λ (l : List ℕ). getD l j 0) (sym (links (o .contentsSlot p hp .ready f)));
+          sameLinks = λ j b f. r .sameLinks j b f ∙ ap (λ (l : List ℕ). getD l j 0) (sym (on (o .contentsSlot p hp .ready f) .4));
           linksBlank = r .linksBlank;
         };
       }
 
-module _ (m : State) (s : EverySlot m) (a : ℕ) (ha : a < m .actors) (some : 1 ≤ queue m a .len) where
+module _ (m : State) (s : Unbroken m) (a : ℕ) (ha : a < m .actors) (some : 1 ≤ queue m a .len) where
   pub actor-8 : a < 8
   actor-8 = let t = actors8 m s in omega arith
 
@@ -80,7 +78,7 @@ module _ (m : State) (s : EverySlot m) (a : ℕ) (ha : a < m .actors) (some : 1 
   head-made = made-view m s (head m a) head-from
 
   head-once : times (head m a) (standing (queue m a)) ≡ 1
-  head-once = subst (λ (b : ℕ). times (head m a) (standing (queue m b)) ≡ 1) head-own (s .onceAt (head m a) head-32 head-from head-to)
+  head-once = subst (λ (b : ℕ). times (head m a) (standing (queue m b)) ≡ 1) head-own (s .queuedOnce (head m a) head-32 head-from head-to)
 
   -- the head stands in its own queue only
   pub head-elsewhere : (b i : ℕ) → b < 8 → i < queue m b .len → getD (queue m b .views) i 0 ≡ head m a → b ≡ a
@@ -123,9 +121,9 @@ module _ (m : State) (s : EverySlot m) (a : ℕ) (ha : a < m .actors) (some : 1 
     once u hu =
         read-view m s (head m a) head-32 w actor (λ n x. n < 32 → 1 ≤ x .phase → x .phase ≤ 4 → times n (standing (queue m (x .actor))) ≡ 1) u
         (λ b c d. subst (λ (n : ℕ). times (head m a) (standing (queue m n)) ≡ 1) (sym (actor ∙ head-own)) head-once)
-        (λ n. s .onceAt u) hu
+        (λ n. s .queuedOnce u) hu
 
-    pub head-write : Job m (m .made) (view m (head m a - 1) .actor) (head m a) w → EverySlot (withView m (head m a) w)
+    pub head-write : Job m (m .made) (view m (head m a - 1) .actor) (head m a) w → Unbroken (withView m (head m a) w)
     head-write j =
         jobs-kept m s (m .made) (set (m .views) (head m a) w) (m .queues) (m .messages)
         (views-long m s (head m a) head-32 w actor) (s .sized .queues) (s .sized .messages) (s .made16) (omega arith)

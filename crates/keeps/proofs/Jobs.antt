@@ -12,7 +12,7 @@ use Rattle.protocol.specs.Words.{times}
 use Rattle.protocol.specs.Slots.{number, noView, standing}
 use Rattle.protocol.specs.Slots.{view, queue, message, repair, entry, recordCopies, ackCopies, contents, causeLinks}
 use Rattle.protocol.specs.Writes.{withMade, withViews, withQueues, withMessages}
-use Rattle.unbroken.specs.EverySlot.{Sized, ViewSlot, QueueSlot, MessageSlot, RepairSlot, EntrySlot, CopySlot, ContentsSlot, LinksSlot, EverySlot}
+use Rattle.unbroken.specs.Unbroken.{Sized, ViewSlot, QueueSlot, MessageSlot, RepairSlot, EntrySlot, CopySlot, ContentsSlot, LinksSlot, Unbroken}
 use Rattle.protocol.specs.declared.State.{State}
 use Rattle.protocol.specs.declared.View.{View}
 use Rattle.protocol.specs.declared.Queue.{Queue}
@@ -31,7 +31,7 @@ pub record Job (m : State) (made sender v : ℕ) (w : View) : Type 0 where
 abbrev pub jobsOf : State → ℕ → List View → List Queue → List Message → State
 jobsOf m made views queues messages = withMade (withMessages (withQueues (withViews m views) queues) messages) made
 
-module _ (m : State) (s : EverySlot m) where
+module _ (m : State) (s : Unbroken m) where
   -- an unbroken machine's views have it all
   pub job-at : (v : ℕ) → v < 32 → Job m (m .made) (view m (v - 1) .actor) v (view m v)
   job-at v h =
@@ -54,7 +54,7 @@ module _ (m : State) (s : EverySlot m) where
         → ((v : ℕ) → v < 32 → 1 ≤ view m′ v .phase → view m′ v .phase ≤ 4 → times v (standing (queue m′ (view m′ v .actor))) ≡ 1)
         → ((a : ℕ) → a < 8 → QueueSlot (m .actors) views a (queue m′ a))
         → ((k : ℕ) → k < 16 → MessageSlot (m .stores) made (view m′ (number k 1) .phase) k (message m′ k))
-        → EverySlot m′
+        → Unbroken m′
     jobs-kept lv lq lm few more jobs once queued sent =
         let z : Sized m′ = search (s .sized) in
         record {
@@ -64,7 +64,7 @@ module _ (m : State) (s : EverySlot m) where
           homeBlank = s .homeBlank;
           listBlank = s .listBlank;
           viewAt = λ v h. jobs v h .viewSlot;
-          onceAt = once;
+          queuedOnce = once;
           queueAt = queued;
           messageAt = sent;
           repairAt = λ v h. jobs v h .repairSlot;
@@ -122,7 +122,6 @@ module _ (m : State) (s : EverySlot m) where
           unreceived = λ f. let y = g .unreceived f in absurd (omega arith);
           ownIn = g .ownIn;
           sent = λ b y. absurd (omega arith);
-          ownBlank = g .ownBlank;
-          wordBlank = g .wordBlank;
+          blank = g .blank;
         })
         (λ n e. s .messageAt k hk) refl

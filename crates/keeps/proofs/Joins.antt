@@ -8,68 +8,21 @@ use native.Mathlib.Decide.{decLt, ℕ-discrete}
 use lib.ListN.{getD, set}
 use Rattle.protocol.specs.Words.{times}
 use Rattle.protocol.specs.Slots.{noView, noQueue, view, queue, standing, home}
-use Rattle.unbroken.specs.EverySlot.{SetupKind, none, some, ViewSlot, QueueSlot, EverySlot}
+use Rattle.unbroken.specs.Unbroken.{QueueSlot, Unbroken}
 use Rattle.protocol.specs.declared.State.{State}
 use Rattle.protocol.specs.declared.View.{View}
 use Rattle.protocol.specs.declared.Queue.{Queue}
-use Rattle.unbroken.proofs.Laws.Room.{actors8, made-view, unmade-absent}
+use Rattle.unbroken.proofs.Laws.Room.{actors8, legal-actor, made-view, unmade-absent}
 use Rattle.protocol.specs.Send.{joined}
 use Rattle.keeps.proofs.Index.{at-others}
-use Rattle.keeps.proofs.Jobs.{Job, job-at}
 use Rattle.keeps.proofs.Queues.{joined-long, joined-last, joined-at, joined-times, joined-once}
 
 -- an actor's home is a store
-home-of : (stores actors a : ℕ) (homes lists : List ℕ) → a < actors → SetupKind stores actors homes lists → getD homes a 0 < stores
-home-of stores actors a homes lists h (none x y) = absurd (omega arith)
-home-of stores actors a homes lists h (some l) = l .actorAt a h .homeIn
-
-pub home-in : (m : State) → EverySlot m → (a : ℕ) → a < m .actors → home m a < m .stores
-home-in m s a h = home-of (m .stores) (m .actors) a (m .homes) (m .lists) h (s .setup)
-
--- a view that was in phase 0 has no copies, contents, repair or entry
-module _ (m : State) (s : EverySlot m) (v : ℕ) (h : v < 32) (old : view m v .phase ≡ 0) where
-  pub unready-job : (made sender : ℕ) (w : View) → ViewSlot (m .stores) (m .actors) made sender v w → Job m made sender v w
-  unready-job made sender w x =
-      let o = job-at m s v h in
-      let settled : view m v .phase ≡ 5 → ⊥ = λ e. omega arith in
-      let ready : 2 ≤ view m v .phase → ⊥ = λ e. omega arith in
-      record {
-        viewSlot = x;
-        repairSlot = (let r = o .repairSlot in record {
-          settled = λ f. absurd (settled (r .settled f));
-          destinationIn = r .destinationIn;
-          ownIn = r .ownIn;
-          destinationBlank = r .destinationBlank;
-          ownBlank = r .ownBlank;
-        });
-        entrySlot = (let r = o .entrySlot in record {
-          settled = λ f. absurd (settled (r .settled f));
-          destinationIn = r .destinationIn;
-          ownIn = r .ownIn;
-          destinationBlank = r .destinationBlank;
-          ownBlank = r .ownBlank;
-        });
-        recordSlot = λ p hp. let r = o .recordSlot p hp in record { copies15 = r .copies15; atStore = r .atStore; atView = λ b. absurd (ready (r .atView b)) };
-        ackSlot = λ p hp. let r = o .ackSlot p hp in record { copies15 = r .copies15; atStore = r .atStore; atView = λ b. absurd (ready (r .atView b)) };
-        contentsSlot = λ p hp. let r = o .contentsSlot p hp in record {
-          atStore = r .atStore;
-          ready = λ e. absurd (ready (r .ready e));
-          sameActor = λ e. absurd (ready (r .ready e));
-          sameCauses = λ e. absurd (ready (r .ready e));
-          sameWord = λ e. absurd (ready (r .ready e));
-          actorBlank = r .actorBlank;
-          causesBlank = r .causesBlank;
-          wordBlank = r .wordBlank;
-        };
-        linksSlot = λ p k hp hk e. let r = o .linksSlot p k hp hk e in record {
-          long = r .long;
-          sameLinks = λ j b f. absurd (ready (o .contentsSlot p hp .ready f));
-          linksBlank = r .linksBlank;
-        };
-      }
+pub home-in : (m : State) → Unbroken m → (a : ℕ) → a < m .actors → home m a < m .stores
+home-in m s a h = legal-actor m s a h .homeIn
 
 -- the views that stood are as they were, and the new one is in phase 1
-module _ (m : State) (s : EverySlot m) (a : ℕ) (ha : a < m .actors) (v : ℕ) (h : v < 32) (old : view m v .phase ≡ 0) (room : queue m a .len < 16)
+module _ (m : State) (s : Unbroken m) (a : ℕ) (ha : a < m .actors) (v : ℕ) (h : v < 32) (old : view m v .phase ≡ 0) (room : queue m a .len < 16)
     (views : List View) (actor : getD views v noView .actor ≡ a) (first : getD views v noView .phase ≡ 1)
     (same : (u : ℕ) → 1 ≤ view m u .phase → getD views u noView ≡ view m u)
     (only : (u : ℕ) → u ≢ v → 1 ≤ getD views u noView .phase → getD views u noView ≡ view m u) where
@@ -145,7 +98,7 @@ module _ (m : State) (s : EverySlot m) (a : ℕ) (ha : a < m .actors) (v : ℕ) 
           let w = only u n from in
           let c = subst (λ (x : View). 1 ≤ x .phase) w from in
           let d = subst (λ (x : View). x .phase ≤ 4) w to in
-          let o = s .onceAt u hu c d in
+          let o = s .queuedOnce u hu c d in
           let t = actors8 m s in
           let i = s .viewAt u hu .actorIn (made-view m s u c) in
           subst (λ (x : View). times u (standing (getD queues (x .actor) noQueue)) ≡ 1) (sym w)

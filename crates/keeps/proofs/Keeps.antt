@@ -4,9 +4,9 @@ use mathlib.Core.Path.{_≡_, refl}
 use mathlib.Core.Logic.{_≢_}
 use mathlib.Core.Bool.{false}
 use Rattle.protocol.specs.Broken.{brokenOf}
-use Rattle.unbroken.specs.EverySlot.{EverySlot}
+use Rattle.unbroken.specs.Unbroken.{Unbroken}
 use Rattle.protocol.specs.declared.State.{State}
-use Rattle.unbroken.proofs.Laws.{slots, slots-whole}
+use Rattle.unbroken.proofs.Laws.{unbroken, whole}
 use Rattle.protocol.specs.Step.{afterOf}
 use Rattle.protocol.specs.declared.Step.{Step}
 use Rattle.keeps.specs.Taken.{Taken}
@@ -15,11 +15,11 @@ use Rattle.keeps.proofs.Conditions.{taken-when}
 use Rattle.keeps.proofs.Cases.{step-case}
 use Rattle.keeps.proofs.Changes.{taken-changes, changes-kept}
 
-pub every-kept : (m : State) (s : Step) → EverySlot m → Taken m s → EverySlot (afterOf m s)
+pub every-kept : (m : State) (s : Step) → Unbroken m → Taken m s → Unbroken (afterOf m s)
 every-kept m s e c = changes-kept m (afterOf m s) e (taken-changes m s e c)
 
 pub keeps : Keeps
-keeps m s unbroken zero = slots-whole (afterOf m s) (every-kept m s (slots m unbroken) (taken-when m s zero))
+keeps m s e zero = whole (afterOf m s) (every-kept m s (unbroken m e) (taken-when m s zero))
 
 pub step-keeps : StepKeeps
 step-keeps m s unbroken =

@@ -17,7 +17,7 @@ use Rattle.protocol.specs.declared.State.{State}
 use Rattle.protocol.specs.declared.View.{View}
 use Rattle.protocol.specs.declared.Contents.{Contents}
 use Rattle.protocol.specs.Outcome.{Outcome}
-use Rattle.unbroken.proofs.Laws.{slots, only, fresh-unbroken}
+use Rattle.unbroken.proofs.Laws.{unbroken, only, fresh-unbroken}
 use Rattle.unbroken.proofs.Shelves.{link-same}
 use Rattle.unbroken.proofs.Laws.Tests.{not-both}
 use Rattle.unbroken.proofs.Laws.Every.{table-at}
@@ -109,7 +109,7 @@ made-counts m (Restart p) = refl
 pub sends-new-key : SendsNewKey
 unfolding sent
 sends-new-key m from to own word causes e c =
-    let s = slots m e in
+    let s = unbroken m e in
     let w = sentView m from to own word causes in
     let k = m .made in
     let room = c .room in
@@ -125,7 +125,7 @@ sends-new-key m from to own word causes e c =
 -- the links
 pub send-writes-links : SendWritesLinks
 send-writes-links m from to own word causes e c =
-    let s = slots m e in
+    let s = unbroken m e in
     let at = sends-new-key m from to own word causes e c .sender in
     record {
       viewlink = ap (λ (x : View). x .viewlink) at;
@@ -138,7 +138,7 @@ send-writes-links m from to own word causes e c =
 pub receive-writes-link : ReceiveWritesLink
 unfolding receivedOf
 receive-writes-link m k e c =
-    let s = slots m e in
+    let s = unbroken m e in
     let hv = number-32 m s k 1 (c .keyIn) (omega arith) in
     let long = s .sized .views in
     let g = s .messageAt k (key-16 m s k (c .keyIn)) in
@@ -150,7 +150,7 @@ receive-writes-link m k e c =
 pub store-writes-links : StoreWritesLinks
 unfolding recordTaken
 store-writes-links m p k r e c =
-    let s = slots m e in
+    let s = unbroken m e in
     let o = c .place in
     let hs = o .storeIn in
     let hk = o .keyIn in

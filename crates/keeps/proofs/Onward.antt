@@ -10,7 +10,7 @@ use lib.Seq.{getD-set-other}
 use lib.Dec.{eqb}
 use Rattle.protocol.specs.Slots.{number, place, linksPlace, noView, noEntry, noRepair, noContents, noLinks, statusNumber, view, repair, entry, contents, causeLinks, viewlink}
 use Rattle.protocol.specs.Writes.{withView, withEntry, withUpAt, withViewlink}
-use Rattle.unbroken.specs.EverySlot.{EverySlot}
+use Rattle.unbroken.specs.Unbroken.{Unbroken}
 use Rattle.protocol.specs.declared.State.{State}
 use Rattle.protocol.specs.declared.View.{View}
 use Rattle.protocol.specs.declared.Entry.{Entry}
@@ -20,7 +20,7 @@ use Rattle.protocol.specs.declared.Links.{Links}
 use Rattle.protocol.specs.declared.Status.{Status}
 use Rattle.unbroken.proofs.Laws.Tests.{not-both}
 use Rattle.protocol.specs.Closed.{restsOf, closedOf}
-use Rattle.unbroken.proofs.Laws.{slots}
+use Rattle.unbroken.proofs.Laws.{unbroken}
 use Rattle.unbroken.proofs.Laws.Room.{made-view}
 use Rattle.unbroken.proofs.Laws.Says.{Says, eq-says, eq-splits, is-splits, zero-splits, and-says, not-says, put-says}
 use Rattle.protocol.specs.Views.{phased}
@@ -217,7 +217,7 @@ views-onward m n s₁ s₂ s₃ s₄ more on c l k e =
       entered = λ v hv b. subst (λ (x : List Entry). 1 ≤ statusNumber (getD x v noEntry .status)) (sym e) b;
     }
 
-module _ (m : State) (s : EverySlot m) where
+module _ (m : State) (s : Unbroken m) where
   one-view : (u : ℕ) → u < 32 → (w : View) → ViewOn (view m u) w → (v : ℕ) → v < m .made * 2 → ViewOn (view m v) (getD (set (m .views) u w) v noView)
   one-view u hu w o v hv =
       let few = s .made16 in
@@ -329,7 +329,7 @@ entry-onward m long u hu e f =
     }
 
 -- .. also where the opposite view's repair redirects it
-repair-onward : (m : State) → EverySlot m → (k r : ℕ) → TakeRepairTaken m k r → Onward m (repairTaken m k r)
+repair-onward : (m : State) → Unbroken m → (k r : ℕ) → TakeRepairTaken m k r → Onward m (repairTaken m k r)
 unfolding repairTaken
 repair-onward m s k r c =
     let hk = c .view .keyIn in
@@ -374,7 +374,7 @@ status-from m v t (isWaiting e) = let n = ap statusNumber e in (omega arith, ome
 status-from m v t (isExpired e) = let n = ap statusNumber e in (omega arith, omega arith, omega arith)
 status-from m v t (isDone p hp e d c) = let n = ap statusNumber e in (omega arith, omega arith, omega arith)
 
-pub change-onward : (m n : State) → EverySlot m → Change m n → Onward m n
+pub change-onward : (m n : State) → Unbroken m → Change m n → Onward m n
 change-onward m n s (onUp p b h) = up-onward m p b
 change-onward m n s (onSend from to own word causes c) = send-onward m s from to own word causes c
 change-onward m n s (onReceive k c) = receive-onward m s k c
@@ -391,7 +391,7 @@ pub step-onward : StepOnward
 step-onward = step-related Onward still after change-onward
 
 -- the views of a closed interaction rest through every change
-module _ (m : State) (s : EverySlot m) (k : ℕ) (rests : (r : ℕ) → r < 2 → Resting m (number k r)) where
+module _ (m : State) (s : Unbroken m) (k : ℕ) (rests : (r : ℕ) → r < 2 → Resting m (number k r)) where
   settle-rests : (a : ℕ) → HeadIn 4 m a → (r : ℕ) → r < 2 → repair (postChecked m a) (number k r) .flying ≡ false
   unfolding postChecked
   settle-rests a h r hr =
@@ -469,7 +469,7 @@ module _ (m : State) (s : EverySlot m) (k : ℕ) (rests : (r : ℕ) → r < 2 �
         awaited = λ e. second (sym (ap (λ (x : Entry). statusNumber (x .status)) same) ∙ e);
       }
 
-pub closed-change : (k : ℕ) (m n : State) → EverySlot m → Change m n → Closed m k → Closed n k
+pub closed-change : (k : ℕ) (m n : State) → Unbroken m → Change m n → Closed m k → Closed n k
 closed-change k m n s c d =
     let on = change-onward m n s c in
     let hk = d .keyIn in
@@ -490,7 +490,7 @@ rests-say m v =
     (λ x. record { phase = x .0 .0 .0; repair = x .0 .0 .1; due = x .0 .1; awaited = x .1 })
     (λ y. (((y .phase, y .repair), y .due), y .awaited))
 
-closed-slots : (m : State) (k : ℕ) → EverySlot m → Says (closedOf m k) (Closed m k)
+closed-slots : (m : State) (k : ℕ) → Unbroken m → Says (closedOf m k) (Closed m k)
 unfolding closedOf
 closed-slots m k s =
     put-says (and-says (rests-say m (number k 0)) (rests-say m (number k 1)))
@@ -498,7 +498,7 @@ closed-slots m k s =
     (λ y. (y .sender, y .receiver))
 
 pub closed-says : ClosedSays
-closed-says m k e = let c = closed-slots m k (slots m e) in (c .tells, c .told)
+closed-says m k e = let c = closed-slots m k (unbroken m e) in (c .tells, c .told)
 
 pub closed-stays : ClosedStays
 closed-stays m s k =

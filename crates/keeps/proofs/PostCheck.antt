@@ -11,7 +11,7 @@ use lib.Seq.{getD-set-same, getD-set-other}
 use Rattle.protocol.specs.Words.{times}
 use Rattle.protocol.specs.Slots.{noView, noQueue, view, queue, standing, repair}
 use Rattle.protocol.specs.Writes.{withView, withQueue}
-use Rattle.unbroken.specs.EverySlot.{QueueSlot, RepairSlot, EverySlot}
+use Rattle.unbroken.specs.Unbroken.{QueueSlot, RepairSlot, Unbroken}
 use Rattle.protocol.specs.declared.State.{State}
 use Rattle.protocol.specs.declared.View.{View}
 use Rattle.protocol.specs.declared.Queue.{Queue}
@@ -23,12 +23,12 @@ use Rattle.keeps.specs.Taken.{HeadIn}
 use Rattle.keeps.proofs.Index.{at-others}
 use Rattle.keeps.proofs.Writes.{repair-write}
 use Rattle.keeps.proofs.Jobs.{jobs-kept, read-view, one-job, views-long, message-same}
-use Rattle.keeps.proofs.Heads.{moved-job, actor-8, head-from, head-to, head-32, head-made, head-elsewhere, head-behind}
+use Rattle.keeps.proofs.Heads.{moved-job, actor-8, head-from, head-to, head-32, head-elsewhere, head-behind}
 use Rattle.keeps.proofs.Cases.{pick-case}
-use Rattle.keeps.proofs.Actors.{phased-slot}
+use Rattle.keeps.proofs.Actors.{head-slot}
 use Rattle.keeps.proofs.Queues.{left-long, left-at, left-end, left-times}
 
-module _ (m : State) (s : EverySlot m) (a : ℕ) (ha : a < m .actors) (some : 1 ≤ queue m a .len) where
+module _ (m : State) (s : Unbroken m) (a : ℕ) (ha : a < m .actors) (some : 1 ≤ queue m a .len) where
   abbrev w : View
   w = phased 5 (headView m a)
 
@@ -104,7 +104,7 @@ module _ (m : State) (s : EverySlot m) (a : ℕ) (ha : a < m .actors) (some : 1 
       (λ b c d. absurd (omega arith))
       (λ n b c d.
       let q = s .queueAt a (actor-8 m s a ha some) in
-      let o = s .onceAt u b c d in
+      let o = s .queuedOnce u b c d in
       let t = actors8 m s in
       let i = s .viewAt u b .actorIn (made-view m s u c) in
       at-others (m .queues) 8 a (left (queue m a)) noQueue (s .sized .queues) (actor-8 m s a ha some) (λ e x. e ≡ view m u .actor → times u (standing x) ≡ 1)
@@ -112,16 +112,17 @@ module _ (m : State) (s : EverySlot m) (a : ℕ) (ha : a < m .actors) (some : 1 
       (λ k hk g e. subst (λ (j : ℕ). times u (standing (queue m j)) ≡ 1) (sym e) o) (view m u .actor) (omega arith) refl)
       hu
 
-  left-kept : EverySlot (withQueue (withView m (head m a) w) a (left (queue m a)))
+  left-kept : Unbroken (withQueue (withView m (head m a) w) a (left (queue m a)))
   left-kept =
       let from = head-from m s a ha some in
-      let x = phased-slot (headView m a) 5 from (omega arith) (omega arith) (head-made m s a ha some) (s .viewAt (head m a) v-32) in
+      let old = s .viewAt (head m a) v-32 in
+      let x = head-slot m s a ha some 5 _ _ _ (omega arith) (omega arith) (old .storeIn from) (old .causes) in
       jobs-kept m s (m .made) views queues (m .messages)
       (views-long m s (head m a) v-32 w refl) (length-set (m .queues) a (left (queue m a)) ∙ s .sized .queues) (s .sized .messages) (s .made16) (omega arith)
-      (one-job m s (head m a) v-32 w refl (moved-job m s (head m a) v-32 (head-to m s a ha some) w x (omega arith) refl refl refl (λ h. refl)))
+      (one-job m s (head m a) v-32 w refl (moved-job m s (head m a) v-32 (head-to m s a ha some) (m .made) (view m (head m a - 1) .actor) w x (λ h. (omega arith, refl, refl, refl, refl))))
       once queued (message-same m s (head m a) v-32 w refl from (omega arith))
 
-pub post-check-kept : (m : State) → EverySlot m → (a : ℕ) → HeadIn 4 m a → EverySlot (postChecked m a)
+pub post-check-kept : (m : State) → Unbroken m → (a : ℕ) → HeadIn 4 m a → Unbroken (postChecked m a)
 unfolding postChecked
 post-check-kept m s a c =
     let ha = c .actorIn in
@@ -135,5 +136,5 @@ post-check-kept m s a c =
     let now : view m₁ (head m a) .phase ≡ 5 = ap (λ (x : View). x .phase) (getD-set-same (m .views) (head m a) (phased 5 (headView m a)) noView (omega arith)) in
     repair-write m₁ s₁ (head m a) hv (askedRepair (repair m (head m a)) (headView m a))
     (pick-case (RepairSlot (m .stores) (view m₁ (head m a) .phase)) (headView m a .changed) _ _
-    (λ e. record { settled = λ f. now; destinationIn = λ f. old .viewlinkIn from; ownIn = λ f. old .storeIn from; destinationBlank = λ f. absurd (true≢false f); ownBlank = λ f. absurd (true≢false f) })
+    (λ e. record { settled = λ f. now; destinationIn = λ f. old .viewlinkIn from; ownIn = λ f. old .storeIn from; blank = λ f. absurd (true≢false f) })
     (λ e. s₁ .repairAt (head m a) hv))

@@ -1,31 +1,32 @@
 -- Step 1 keeps every slot: the sender's record joins the queue, the receiver's waits, and the message is in flight. Assumes nothing.
-use Prim.Native.Nat.{ℕ, _+_, _-_, _≤_, _<_}
+use Prim.Native.Nat.{ℕ, _+_, _-_, _/_, _≤_, _<_}
 use mathlib.Core.Path.{_≡_, refl, sym, ap, subst, _∙_}
 use mathlib.Core.Logic.{_≢_}
 use mathlib.Core.Bool.{true, true≢false}
 use mathlib.Core.List.{List}
 use native.Mathlib.Omega.{arith}
 use native.Mathlib.Decide.{ℕ-discrete}
-use lib.ListN.{length, getD, set, length-set, getD-replicate}
+use lib.ListN.{length, getD, set, length-set}
 use lib.Seq.{getD-set-same, getD-set-other}
 use Rattle.protocol.specs.Words.{bit}
 use Rattle.protocol.specs.Slots.{number, noView, noMessage, view, queue, message, home}
-use Rattle.unbroken.specs.EverySlot.{ViewSlot, MessageSlot, EverySlot}
+use Rattle.unbroken.specs.Unbroken.{ViewSlot, MessageSlot, Unbroken}
 use Rattle.protocol.specs.declared.State.{State}
 use Rattle.protocol.specs.declared.View.{View}
 use Rattle.protocol.specs.declared.Message.{Message}
 use Rattle.unbroken.proofs.Laws.Tests.{not-both}
 use Rattle.unbroken.proofs.Laws.Every.{length-table, table-at}
 use Rattle.unbroken.proofs.Laws.Room.{actors8, bounds-of}
-use Rattle.unbroken.proofs.Laws.Bits.{no-bit}
+use Rattle.unbroken.proofs.Laws.Fresh.{no-causes}
 use Rattle.protocol.specs.Send.{joined, homeLink, sentView, awaitedView, sent}
 use Rattle.keeps.specs.Taken.{SendTaken}
 use Rattle.keeps.proofs.Index.{at-others}
 use Rattle.keeps.proofs.Jobs.{Job, job-at, jobs-kept}
-use Rattle.keeps.proofs.Joins.{home-in, unready-job, join-queued, join-once}
+use Rattle.keeps.proofs.Heads.{moved-job}
+use Rattle.keeps.proofs.Joins.{home-in, join-queued, join-once}
 use Rattle.keeps.proofs.Cases.{pick-case}
 
-module _ (m : State) (s : EverySlot m) (from to own word causes : ℕ) (c : SendTaken m from to own causes) where
+module _ (m : State) (s : Unbroken m) (from to own word causes : ℕ) (c : SendTaken m from to own causes) where
   abbrev k : ℕ
   k = m .made
 
@@ -75,11 +76,13 @@ module _ (m : State) (s : EverySlot m) (from to own word causes : ℕ) (c : Send
   sender-slot : (before : ℕ) → ViewSlot (m .stores) (m .actors) (k + 1) before (number k 0) sender
   sender-slot before =
       record {
-        linksLong = length-table (homeLink causes (home m from)) 16;
-        causeBelow = λ j h b. let i = c .known j h b .keyIn in omega arith;
-        linkIn = λ j h b. subst (λ (n : ℕ). n < m .stores) (sym (link-at j h))
-            (pick-case (λ (n : ℕ). n < m .stores) (bit causes j) _ _ (λ e. home-in m s from (c .fromIn)) (λ e. not-both (bit causes j) b e));
-        linkBlank = λ j h b. link-at j h ∙ pick-case (λ (n : ℕ). n ≡ 0) (bit causes j) _ _ (λ e. not-both (bit causes j) e b) (λ e. refl);
+        causes = record {
+          long = length-table (homeLink causes (home m from)) 16;
+          below = λ j h b. let i = c .known j h b .keyIn in omega arith;
+          linkIn = λ j h b. subst (λ (n : ℕ). n < m .stores) (sym (link-at j h))
+              (pick-case (λ (n : ℕ). n < m .stores) (bit causes j) _ _ (λ e. home-in m s from (c .fromIn)) (λ e. not-both (bit causes j) b e));
+          linkBlank = λ j h b. link-at j h ∙ pick-case (λ (n : ℕ). n ≡ 0) (bit causes j) _ _ (λ e. not-both (bit causes j) e b) (λ e. refl);
+        };
         storeIn = λ h. c .ownIn;
         viewlinkIn = λ h. home-in m s to (c .toIn);
         unset = λ e. absurd (omega arith);
@@ -95,10 +98,7 @@ module _ (m : State) (s : EverySlot m) (from to own word causes : ℕ) (c : Send
   receiver-slot : (before : ℕ) → before ≡ from → ViewSlot (m .stores) (m .actors) (k + 1) before (number k 1) receiver
   receiver-slot before same =
       record {
-        linksLong = refl;
-        causeBelow = λ j b e. no-bit 0 j refl e;
-        linkIn = λ j b e. no-bit 0 j refl e;
-        linkBlank = λ j b e. getD-replicate {A = ℕ} 16 j 0 0 b;
+        causes = no-causes (m .stores) (number k 1 / 2);
         storeIn = λ h. absurd (omega arith);
         viewlinkIn = λ h. absurd (omega arith);
         unset = λ e. refl;
@@ -116,10 +116,7 @@ module _ (m : State) (s : EverySlot m) (from to own word causes : ℕ) (c : Send
   other-slot u h n n′ =
       let o = s .viewAt u h in
       record {
-        linksLong = o .linksLong;
-        causeBelow = o .causeBelow;
-        linkIn = o .linkIn;
-        linkBlank = o .linkBlank;
+        causes = o .causes;
         storeIn = o .storeIn;
         viewlinkIn = o .viewlinkIn;
         unset = o .unset;
@@ -141,6 +138,9 @@ module _ (m : State) (s : EverySlot m) (from to own word causes : ℕ) (c : Send
       before : getD views (number k 1 - 1) noView .actor ≡ from
       before = let e : number k 1 - 1 ≡ number k 0 = omega arith in ap (λ (n : ℕ). getD views n noView .actor) e ∙ ap (λ (x : View). x .actor) at-sender
 
+      new-job : (r : ℕ) → r < 2 → (sender : ℕ) (w : View) → ViewSlot (m .stores) (m .actors) (k + 1) sender (number k r) w → Job m (k + 1) sender (number k r) w
+      new-job r hr sender w x = let z = unmade r hr in moved-job m s (number k r) (omega arith) (omega arith) (k + 1) sender w x (λ g. absurd (omega arith))
+
       other-job : u ≢ number k 0 → u ≢ number k 1 → Job m (k + 1) (getD views (u - 1) noView .actor) u (view m u)
       other-job n n′ =
           let o = job-at m s u h in
@@ -157,10 +157,10 @@ module _ (m : State) (s : EverySlot m) (from to own word causes : ℕ) (c : Send
       go : Dec (u ≡ number k 0) → Dec (u ≡ number k 1) → Job m (k + 1) (getD views (u - 1) noView .actor) u (getD views u noView)
       go (yes e) d =
           subst (λ (n : ℕ). Job m (k + 1) (getD views (n - 1) noView .actor) n (getD views n noView)) (sym e)
-          (subst (Job m (k + 1) _ (number k 0)) (sym at-sender) (unready-job m s (number k 0) (omega arith) (unmade 0 (omega arith)) (k + 1) _ sender (sender-slot _)))
+          (subst (Job m (k + 1) _ (number k 0)) (sym at-sender) (new-job 0 (omega arith) _ sender (sender-slot _)))
       go (no n) (yes e) =
           subst (λ (n : ℕ). Job m (k + 1) (getD views (n - 1) noView .actor) n (getD views n noView)) (sym e)
-          (subst (Job m (k + 1) _ (number k 1)) (sym at-receiver) (unready-job m s (number k 1) (omega arith) (unmade 1 (omega arith)) (k + 1) _ receiver (receiver-slot _ before)))
+          (subst (Job m (k + 1) _ (number k 1)) (sym at-receiver) (new-job 1 (omega arith) _ receiver (receiver-slot _ before)))
       go (no n) (no n′) = subst (Job m (k + 1) _ u) (sym (others u n n′)) (other-job n n′)
 
   sent-messages : (j : ℕ) → j < 16 → MessageSlot (m .stores) (k + 1) (getD views (number j 1) noView .phase) j (getD messages j noMessage)
@@ -171,8 +171,7 @@ module _ (m : State) (s : EverySlot m) (from to own word causes : ℕ) (c : Send
         unreceived = λ e. ap (λ (x : View). x .phase) at-receiver;
         ownIn = λ e. c .ownIn;
         sent = λ h z. refl;
-        ownBlank = λ e. absurd (true≢false e);
-        wordBlank = λ e. absurd (true≢false e);
+        blank = λ e. absurd (true≢false e);
       })
       (λ j h n.
       let g = s .messageAt j h in
@@ -182,11 +181,10 @@ module _ (m : State) (s : EverySlot m) (from to own word causes : ℕ) (c : Send
         unreceived = g .unreceived;
         ownIn = g .ownIn;
         sent = λ i z. g .sent (omega arith) z;
-        ownBlank = g .ownBlank;
-        wordBlank = g .wordBlank;
+        blank = g .blank;
       }))
 
-  pub send-kept : EverySlot (sent m from to own word causes)
+  pub send-kept : Unbroken (sent m from to own word causes)
   unfolding sent
   send-kept =
       let b = room in

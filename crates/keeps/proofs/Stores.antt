@@ -9,7 +9,7 @@ use lib.Dec.{eqb, ltb}
 use borrow.Author.Tests.{ltb-true}
 use Rattle.protocol.specs.Words.{pick}
 use Rattle.protocol.specs.Slots.{number, place, linksPlace, noContents, noLinks, view, contents, causeLinks, viewlink}
-use Rattle.unbroken.specs.EverySlot.{CopySlot, ContentsSlot, LinksSlot, ViewlinkSlot, EverySlot}
+use Rattle.unbroken.specs.Unbroken.{CopySlot, ContentsSlot, LinksSlot, ViewlinkSlot, Unbroken}
 use Rattle.protocol.specs.declared.State.{State}
 use Rattle.protocol.specs.declared.View.{View}
 use Rattle.protocol.specs.declared.Contents.{Contents}
@@ -36,7 +36,7 @@ more-copies {stores} {p} {least} {at} {n} c hp hl =
       atView = λ h. hl;
     }
 
-module _ (m : State) (s : EverySlot m) where
+module _ (m : State) (s : Unbroken m) where
   pub store-8 : (p : ℕ) → p < m .stores → p < 8
   store-8 p h = let t = stores8 m s in omega arith
 
@@ -57,9 +57,7 @@ module _ (m : State) (s : EverySlot m) where
           sameActor = λ f. refl;
           sameCauses = λ f. refl;
           sameWord = λ f. refl;
-          actorBlank = λ f. absurd (true≢false f);
-          causesBlank = λ f. absurd (true≢false f);
-          wordBlank = λ f. absurd (true≢false f);
+          blank = λ f. absurd (true≢false f);
         })
 
     pub written-held : (c : Contents) (w : View) → writtenContents c w .held ≡ true
@@ -77,7 +75,7 @@ module _ (m : State) (s : EverySlot m) where
         let here : contents (withHeld m p k 0) p (number k 0) .held ≡ true =
         ap (λ (x : Contents). x .held) (place-same (m .contents) p (number k 0) c noContents (s .sized .contents) hp (number-32 k 0 hk (omega arith))) ∙ written-held (contents m p (number k 0)) (view m (number k 0)) in
         written-links (contents (withHeld m p k 0) p (number k 0) .held) here (contents m p (number k 0) .held) (view m (number k 0)) (getD (m .links) (linksPlace p k) noLinks)
-        (s .viewAt (number k 0) (number-32 k 0 hk (omega arith)) .linksLong) (s .linksAt p k hp (key-16 k hk))
+        (s .viewAt (number k 0) (number-32 k 0 hk (omega arith)) .causes .long) (s .linksAt p k hp (key-16 k hk))
     held-links (suc zero) hr =
         let c = writtenContents (contents m p (number k 1)) (view m (number k 1)) in
         let there : contents (withHeld m p k 1) p (number k 0) ≡ contents m p (number k 0) =
@@ -92,7 +90,7 @@ module _ (m : State) (s : EverySlot m) where
         or-false false e = absurd (true≢false e)
     held-links (suc (suc r)) hr = absurd (omega arith)
 
-    pub holds : (r : ℕ) → r < 2 → 2 ≤ view m (number k r) .phase → EverySlot (withHeld m p k r)
+    pub holds : (r : ℕ) → r < 2 → 2 ≤ view m (number k r) .phase → Unbroken (withHeld m p k r)
     holds r hr ready =
         held-write m s p k r hp (key-16 k hk) hr (writtenContents (contents m p (number k r)) (view m (number k r))) (writtenLinks r (contents m p (number k r)) (view m (number k r)) (getD (m .links) (linksPlace p k) noLinks))
         (written (number k r) (number-32 k r hk hr) ready) (held-links r hr)

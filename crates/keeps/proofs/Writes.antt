@@ -8,7 +8,7 @@ use lib.Seq.{getD-set-other}
 use Rattle.protocol.specs.Slots.{number, place, noContents, noLinks, noRepair, noEntry, noStore, statusNumber}
 use Rattle.protocol.specs.Slots.{shelf, view, entry, updateCopies, uackCopies, contents, causeLinks}
 use Rattle.protocol.specs.Writes.{withShelf, turned, relinkedAt, withUpAt, withRecordCopies, withAckCopies, withUpdateCopies, withUackCopies, withViewlink, withRepair, withEntry, withContentsAt, withCauseLinks}
-use Rattle.unbroken.specs.EverySlot.{Sized, RepairSlot, EntrySlot, CopySlot, ContentsSlot, LinksSlot, ViewlinkSlot, StoreSlot, EverySlot}
+use Rattle.unbroken.specs.Unbroken.{Sized, RepairSlot, EntrySlot, CopySlot, ContentsSlot, LinksSlot, ViewlinkSlot, StoreSlot, Unbroken}
 use Rattle.protocol.specs.declared.State.{State}
 use Rattle.protocol.specs.declared.Repair.{Repair}
 use Rattle.protocol.specs.declared.Entry.{Entry}
@@ -17,43 +17,43 @@ use Rattle.protocol.specs.declared.Links.{Links}
 use Rattle.protocol.specs.declared.Store.{Store}
 use Rattle.keeps.proofs.Index.{at-index, at-place, at-links-place}
 
-module _ (m : State) (s : EverySlot m) where
+module _ (m : State) (s : Unbroken m) where
   -- a whole store
-  store-write : (p : ℕ) → p < 8 → (t : Store) → StoreSlot (m .stores) (m .made) p t → EverySlot (withShelf m p t)
+  store-write : (p : ℕ) → p < 8 → (t : Store) → StoreSlot (m .stores) (m .made) p t → Unbroken (withShelf m p t)
   store-write p h t c =
       let z : Sized (withShelf m p t) = search (length-set, s .sized) in
       let u = at-index (m .shelves) 8 p t noStore (s .sized .shelves) h (StoreSlot (m .stores) (m .made)) c (s .storeAt) in
       search
 
-  pub up-write : (p : ℕ) (b : Bool) → p < 8 → (m .stores ≤ p → b ≡ false) → EverySlot (withUpAt m p b)
+  pub up-write : (p : ℕ) (b : Bool) → p < 8 → (m .stores ≤ p → b ≡ false) → Unbroken (withUpAt m p b)
   up-write p b h f = let o = s .storeAt p h in store-write p h (turned (shelf m p) b) (record { upBlank = f; long = o .long; linkAt = o .linkAt })
 
   module _ (p v : ℕ) (hp : p < 8) (hv : v < 32) (n : ℕ) where
-    pub record-write : CopySlot (m .stores) p 2 (view m v .phase) n → EverySlot (withRecordCopies m p v n)
+    pub record-write : CopySlot (m .stores) p 2 (view m v .phase) n → Unbroken (withRecordCopies m p v n)
     record-write c =
         let z : Sized (withRecordCopies m p v n) = search (length-set, s .sized) in
         let u = at-place (m .records) p v n 0 (s .sized .records) hp hv (λ q w. CopySlot (m .stores) q 2 (view m w .phase)) c (s .recordAt) in
         search
 
-    pub ack-write : CopySlot (m .stores) p 2 (view m v .phase) n → EverySlot (withAckCopies m p v n)
+    pub ack-write : CopySlot (m .stores) p 2 (view m v .phase) n → Unbroken (withAckCopies m p v n)
     ack-write c =
         let z : Sized (withAckCopies m p v n) = search (length-set, s .sized) in
         let u = at-place (m .acks) p v n 0 (s .sized .acks) hp hv (λ q w. CopySlot (m .stores) q 2 (view m w .phase)) c (s .ackAt) in
         search
 
-    pub update-write : CopySlot (m .stores) p 1 (statusNumber (entry m v .status)) n → EverySlot (withUpdateCopies m p v n)
+    pub update-write : CopySlot (m .stores) p 1 (statusNumber (entry m v .status)) n → Unbroken (withUpdateCopies m p v n)
     update-write c =
         let z : Sized (withUpdateCopies m p v n) = search (length-set, s .sized) in
         let u = at-place (m .updates) p v n 0 (s .sized .updates) hp hv (λ q w. CopySlot (m .stores) q 1 (statusNumber (entry m w .status))) c (s .updateAt) in
         search
 
-    pub uack-write : CopySlot (m .stores) p 1 (statusNumber (entry m v .status)) n → EverySlot (withUackCopies m p v n)
+    pub uack-write : CopySlot (m .stores) p 1 (statusNumber (entry m v .status)) n → Unbroken (withUackCopies m p v n)
     uack-write c =
         let z : Sized (withUackCopies m p v n) = search (length-set, s .sized) in
         let u = at-place (m .uacks) p v n 0 (s .sized .uacks) hp hv (λ q w. CopySlot (m .stores) q 1 (statusNumber (entry m w .status))) c (s .uackAt) in
         search
 
-    pub viewlink-write : ViewlinkSlot (m .stores) (m .made) p v n → EverySlot (withViewlink m p v n)
+    pub viewlink-write : ViewlinkSlot (m .stores) (m .made) p v n → Unbroken (withViewlink m p v n)
     viewlink-write c =
         let o = s .storeAt p hp in
         store-write p hp (relinkedAt (shelf m p) v n)
@@ -64,14 +64,14 @@ module _ (m : State) (s : EverySlot m) where
         })
 
   module _ (v : ℕ) (hv : v < 32) where
-    pub repair-write : (r : Repair) → RepairSlot (m .stores) (view m v .phase) r → EverySlot (withRepair m v r)
+    pub repair-write : (r : Repair) → RepairSlot (m .stores) (view m v .phase) r → Unbroken (withRepair m v r)
     repair-write r c =
         let z : Sized (withRepair m v r) = search (length-set, s .sized) in
         let u = at-index (m .repairs) 32 v r noRepair (s .sized .repairs) hv (λ w. RepairSlot (m .stores) (view m w .phase)) c (s .repairAt) in
         search
 
     -- an entry that was there stays, so the updates and uacks of its view may
-    pub entry-write : (e : Entry) → EntrySlot (m .stores) (view m v .phase) e → (1 ≤ statusNumber (entry m v .status) → 1 ≤ statusNumber (e .status)) → EverySlot (withEntry m v e)
+    pub entry-write : (e : Entry) → EntrySlot (m .stores) (view m v .phase) e → (1 ≤ statusNumber (entry m v .status) → 1 ≤ statusNumber (e .status)) → Unbroken (withEntry m v e)
     entry-write e c f =
         let z : Sized (withEntry m v e) = search (length-set, s .sized) in
         let u = at-index (m .entries) 32 v e noEntry (s .sized .entries) hv (λ w. EntrySlot (m .stores) (view m w .phase)) c (s .entryAt) in
@@ -88,7 +88,7 @@ module _ (m : State) (s : EverySlot m) where
     abbrev held : State
     held = withCauseLinks (withContentsAt m p (number k r) c) p k l
 
-    pub held-write : ContentsSlot (m .stores) p (view m (number k r)) c → LinksSlot (contents held p (number k 0) .held) (view m (number k 0) .links) (l .to) → EverySlot held
+    pub held-write : ContentsSlot (m .stores) p (view m (number k r)) c → LinksSlot (contents held p (number k 0) .held) (view m (number k 0) .links) (l .to) → Unbroken held
     held-write o d =
         let z : Sized held = search (length-set, s .sized) in
         let u = at-place (m .contents) p (number k r) c noContents (s .sized .contents) hp (omega arith) (λ q w. ContentsSlot (m .stores) q (view m w)) o (s .contentsAt) in

@@ -115,7 +115,7 @@ said u l steps further i h e =
     let c = reached u l (steps ++ further) in
     let x = unbroken m (c .fine) in
     let t = there m c i 0 (omega arith) (omega (arith, closed-of m i e .0 .phase)) in
-    x .sameWord (view m (number i 0) .store) (number i 0) (t .low) (omega (arith, t .made, x .made16)) (t .held) ∙ told-on u l steps further i h .word
+    x .contentsAt (view m (number i 0) .store) (number i 0) (t .low) (omega (arith, t .made, x .made16)) .sameWord (t .held) ∙ told-on u l steps further i h .word
 
 module _ (u : Setup) (l : Legal u) (steps further : List Step) where
   abbrev later : State

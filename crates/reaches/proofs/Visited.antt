@@ -102,12 +102,12 @@ module _ (m : State) (u : Unbroken m) where
   found-causes k link b e =
       let held : contents m (link - 1) (number k 0) .held ≡ true = and-right (not (eqb link 0)) (contents m (link - 1) (number k 0) .held) (and-left _ (closedOf m k) e) in
       elim (decLt (link - 1) 8) [
-        | yes l ↦ u .sameCauses (link - 1) (number k 0) l (omega arith) held
+        | yes l ↦ u .contentsAt (link - 1) (number k 0) l (omega arith) .sameCauses held
         | no l ↦ absurd (false≢true (sym (ap (λ (c : _). c .held) (nothing-held m (u .sized .contents) (link - 1) (number k 0) (omega arith))) ∙ held))
       ]
 
   below : (k c : ℕ) → k < 16 → Cause m k c → c < k
-  below k c b h = let l : c < number k 0 / 2 = u .causeBelow (number k 0) c (omega arith) (h .low) (h .set) in omega arith
+  below k c b h = let l : c < number k 0 / 2 = u .viewAt (number k 0) (omega arith) .causes .below c (h .low) (h .set) in omega arith
 
   -- what the loop does with a cause: it is visited where it is due; else it is met, or something was missing before
   module _ (top : ℕ) (g : ℕ → ℕ → Met → Met) (visits : (j link : ℕ) (w : Met) → j < top → Sound w → getD (w .met) j false ≡ false → Visited m j w (g j link w)) where

@@ -12,7 +12,7 @@ use borrow.Author.Tests.{lt-ltb, ltb-true, eqb-true, not-true}
 use Rattle.protocol.specs.Words.{pick}
 use Rattle.protocol.specs.Book.{homeRead, listRead, actorsRead, wellFormed, setupRead, readingOf}
 use Rattle.protocol.specs.Run.{stepsRead, legalSetup, freshOf, bookNo, refusedRun, fullRun, runOf}
-use Rattle.unbroken.specs.EverySlot.{LegalActor, LegalSetup}
+use Rattle.unbroken.specs.Unbroken.{LegalActor, LegalSetup}
 use Rattle.unbroken.specs.Lowest.{IsLowest}
 use Rattle.unbroken.proofs.Laws.Tests.{by-test, not-both, not-of}
 use Rattle.unbroken.proofs.Laws.Every.{length-table, table-at}

@@ -8,7 +8,7 @@ use lib.ListN.{length}
 use lib.Pow.{areBytes}
 use Rattle.protocol.specs.Book.{Reading, readingOf}
 use Rattle.protocol.specs.Run.{runOf}
-use Rattle.unbroken.specs.EverySlot.{LegalSetup}
+use Rattle.unbroken.specs.Unbroken.{LegalSetup}
 use Rattle.unbroken.specs.Lowest.{IsLowest}
 use Rattle.reads.specs.Reading.{IsBook}
 

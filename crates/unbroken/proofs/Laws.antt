@@ -7,15 +7,13 @@ pub mod Lowest
 pub mod SlotTests
 pub mod Applies
 pub mod Whole
-pub mod Unbroken
 pub mod Counting
 pub mod Room
 pub mod Bits
 pub mod Fresh
 pub mod Empty
 pub mod Only
-pub use Whole.{slots, slots-whole}
-pub use Unbroken.{unbroken, whole, of-slots, to-slots}
+pub use Whole.{unbroken, whole}
 pub use Room.{bounds}
 pub use Fresh.{fresh-unbroken, empty-unbroken, fresh-blank, empty-blank, fresh-setup}
 pub use Only.{only}

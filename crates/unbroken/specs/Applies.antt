@@ -5,7 +5,7 @@ use mathlib.Core.Logic.{_≢_}
 use lib.ListN.{length}
 use Rattle.protocol.specs.Setup.{emptyMachine, setupOf}
 use Rattle.protocol.specs.declared.Setup.{Setup}
-use Rattle.unbroken.specs.EverySlot.{LegalSetup}
+use Rattle.unbroken.specs.Unbroken.{LegalSetup}
 use Rattle.unbroken.specs.Lowest.{IsLowest}
 
 pub data Applies (u : Setup) : ℕ → Type 0 where

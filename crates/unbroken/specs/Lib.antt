@@ -1,5 +1,4 @@
 pub mod Blank
-pub mod EverySlot
 pub mod Unbroken
 pub mod Bounds
 pub mod Lowest

@@ -1,101 +1,185 @@
--- What holds of a machine that is not broken: each clause of document 01's list, in its order, as plain facts.
-use Prim.Native.Nat.{ℕ, _*_, _/_, _≤_, _<_}
+-- What holds of a machine that is not broken: document 01's list, gathered by slot. Each fact denies the clause that stands above it.
+use Prim.Native.Nat.{ℕ, _*_, _-_, _/_, _%_, _^_, _≤_, _<_}
 use mathlib.Core.Path.{_≡_}
 use mathlib.Core.Logic.{_≢_}
-use mathlib.Core.Bool.{true, false}
+use mathlib.Core.Bool.{Bool, true, false}
+use mathlib.Core.List.{List}
 use lib.ListN.{length, getD}
 use Rattle.protocol.specs.Words.{bit, times}
-use Rattle.protocol.specs.Slots.{number, statusNumber, home, list, shelf, isUp, queue, standing, message, view, repair, entry}
-use Rattle.protocol.specs.Slots.{recordCopies, ackCopies, updateCopies, uackCopies, contents, causeLinks, viewlink}
-use Rattle.unbroken.specs.EverySlot.{Sized, SetupKind, Unset}
+use Rattle.protocol.specs.Slots.{number, noView, noMessage, noRepair, noEntry, noContents, statusNumber, home, list, shelf, queue, standing, message, view, repair, entry}
+use Rattle.protocol.specs.Slots.{recordCopies, ackCopies, updateCopies, uackCopies, contents, causeLinks}
+use Rattle.protocol.specs.Views.{unsetView, relinked}
+use Rattle.protocol.specs.Setup.{storesIn}
 use Rattle.protocol.specs.declared.State.{State}
+use Rattle.protocol.specs.declared.View.{View}
+use Rattle.protocol.specs.declared.Queue.{Queue}
+use Rattle.protocol.specs.declared.Contents.{Contents}
+use Rattle.protocol.specs.declared.Message.{Message}
+use Rattle.protocol.specs.declared.Repair.{Repair}
+use Rattle.protocol.specs.declared.Entry.{Entry}
+use Rattle.protocol.specs.declared.Store.{Store}
+
+-- every slot is there
+pub record Sized (m : State) : Type 0 where
+  pub homes : length (m .homes) ≡ 8
+  pub lists : length (m .lists) ≡ 8
+  pub queues : length (m .queues) ≡ 8
+  pub shelves : length (m .shelves) ≡ 8
+  pub messages : length (m .messages) ≡ 16
+  pub views : length (m .views) ≡ 32
+  pub repairs : length (m .repairs) ≡ 32
+  pub entries : length (m .entries) ≡ 32
+  pub records : length (m .records) ≡ 256
+  pub acks : length (m .acks) ≡ 256
+  pub updates : length (m .updates) ≡ 256
+  pub uacks : length (m .uacks) ≡ 256
+  pub contents : length (m .contents) ≡ 256
+  pub links : length (m .links) ≡ 128
+
+-- a home and the bits of a list name stores, the home is in its list, and the list has two stores or more
+pub record LegalActor (stores home list : ℕ) : Type 0 where
+  pub homeIn : home < stores
+  pub listIn : list / 2 ^ stores ≡ 0
+  pub homeListed : bit list home ≡ true
+  pub twoListed : 2 ≤ storesIn list
+
+-- 2 to 8 stores, 2 to 8 actors, and each actor's home and list
+pub record LegalSetup (stores actors : ℕ) (homes lists : List ℕ) : Type 0 where
+  pub stores2 : 2 ≤ stores
+  pub stores8 : stores ≤ 8
+  pub actors2 : 2 ≤ actors
+  pub actors8 : actors ≤ 8
+  pub actorAt : (a : ℕ) → a < actors → LegalActor stores (getD homes a 0) (getD lists a 0)
+
+-- the empty machine's setup, or a legal one
+pub data SetupKind (stores actors : ℕ) (homes lists : List ℕ) : Type 0 where
+  none : stores ≡ 0 → actors ≡ 0 → SetupKind stores actors homes lists
+  some : LegalSetup stores actors homes lists → SetupKind stores actors homes lists
+
+-- just the actor is set (the links are blank where no causes are)
+abbrev pub Unset : View → Type 0
+Unset w = w ≡ relinked (w .links) (unsetView (w .actor))
+
+-- the causes of a view of the interaction key, and their links: a cause isn't below its key; a link names no store; an unused
+-- slot isn't blank: a link with no cause
+pub record CausesSlot (stores key causes : ℕ) (links : List ℕ) : Type 0 where
+  pub long : length links ≡ 16
+  pub below : (j : ℕ) → j < 16 → bit causes j ≡ true → j < key
+  pub linkIn : (j : ℕ) → j < 16 → bit causes j ≡ true → getD links j 0 < stores
+  pub linkBlank : (j : ℕ) → j < 16 → bit causes j ≡ false → getD links j 0 ≡ 0
+
+-- the view v; `sender` is the actor of the view before it, which is the sender's where v is a receiver's
+pub record ViewSlot (stores actors made sender v : ℕ) (w : View) : Type 0 where
+  pub causes : CausesSlot stores (v / 2) (w .causes) (w .links)
+  -- a link or current store names no store
+  pub storeIn : 1 ≤ w .phase → w .store < stores
+  pub viewlinkIn : 1 ≤ w .phase → w .viewlink < stores
+  -- phase 0 is for receivers only, and there just the actor is set; a receiver has no causes
+  pub unset : w .phase ≡ 0 → Unset w
+  pub senderMade : v < made * 2 → v % 2 ≡ 0 → 1 ≤ w .phase
+  pub receiverCauses : v < made * 2 → v % 2 ≡ 1 → w .causes ≡ 0
+  -- a number is outside what is said above
+  pub actorIn : v < made * 2 → w .actor < actors
+  pub phase5 : v < made * 2 → w .phase ≤ 5
+  -- sender equals receiver
+  pub twoActors : v < made * 2 → v % 2 ≡ 1 → w .actor ≢ sender
+  -- an unused slot isn't blank: behind the last interaction
+  pub actorBlank : made * 2 ≤ v → w .actor ≡ 0
+  pub phaseBlank : made * 2 ≤ v → w .phase ≡ 0
+
+-- the queue of the actor a
+pub record QueueSlot (actors : ℕ) (views : List View) (a : ℕ) (q : Queue) : Type 0 where
+  pub long : length (q .views) ≡ 16
+  pub len16 : q .len ≤ 16
+  -- a view in phases 1 to 4 isn't exactly once in its own actor's queue or another view is: no other is
+  pub standsOwn : (i : ℕ) → i < q .len → getD views (getD (q .views) i 0) noView .actor ≡ a
+  pub standsFrom : (i : ℕ) → i < q .len → 1 ≤ getD views (getD (q .views) i 0) noView .phase
+  pub standsTo : (i : ℕ) → i < q .len → getD views (getD (q .views) i 0) noView .phase ≤ 4
+  -- a view behind a head isn't in phase 1
+  pub behind : (i : ℕ) → i < q .len → 1 ≤ i → getD views (getD (q .views) i 0) noView .phase ≡ 1
+  -- an unused slot isn't blank: behind the last actor, the end of a queue
+  pub lenBlank : actors ≤ a → q .len ≡ 0
+  pub placeBlank : (i : ℕ) → i < 16 → q .len ≤ i → getD (q .views) i 0 ≡ 0
+
+-- the message of the interaction k, whose receiver's view is in the phase given
+pub record MessageSlot (stores made phase k : ℕ) (g : Message) : Type 0 where
+  -- an application message isn't in flight exactly for receivers in phase 0
+  pub keyMade : g .flying ≡ true → k < made
+  pub unreceived : g .flying ≡ true → phase ≡ 0
+  pub sent : k < made → phase ≡ 0 → g .flying ≡ true
+  -- its own store names no store; an unused slot isn't blank
+  pub ownIn : g .flying ≡ true → g .own < stores
+  pub blank : g .flying ≡ false → g ≡ noMessage
+
+-- the repair and the entry of a view in the phase given: a view not in phase 5 has one; a destination or own store names no
+-- store; an unused slot isn't blank
+pub record RepairSlot (stores phase : ℕ) (r : Repair) : Type 0 where
+  pub settled : r .flying ≡ true → phase ≡ 5
+  pub destinationIn : r .flying ≡ true → r .destination < stores
+  pub ownIn : r .flying ≡ true → r .own < stores
+  pub blank : r .flying ≡ false → r ≡ noRepair
+
+pub record EntrySlot (stores phase : ℕ) (e : Entry) : Type 0 where
+  pub settled : 1 ≤ statusNumber (e .status) → phase ≡ 5
+  pub destinationIn : 1 ≤ statusNumber (e .status) → e .destination < stores
+  pub ownIn : 1 ≤ statusNumber (e .status) → e .own < stores
+  pub blank : statusNumber (e .status) ≡ 0 → e ≡ noEntry
+
+-- n copies at the store p, of a view whose phase, or status, is at least the least: a view in phase 0 or 1 has a record or ack in
+-- flight; a view with no entry has an update or uack in flight; an unused slot isn't blank: behind the last store
+pub record CopySlot (stores p least at n : ℕ) : Type 0 where
+  pub copies15 : n ≤ 15
+  pub atStore : 1 ≤ n → p < stores
+  pub atView : 1 ≤ n → least ≤ at
+
+-- what the store p holds for a view with the record w
+pub record ContentsSlot (stores p : ℕ) (w : View) (c : Contents) : Type 0 where
+  -- a view in phase 0 or 1 has contents in a store
+  pub ready : c .held ≡ true → 2 ≤ w .phase
+  -- contents in a store differ from the view's record
+  pub sameActor : c .held ≡ true → c .asserter ≡ w .actor
+  pub sameCauses : c .held ≡ true → c .causes ≡ w .causes
+  pub sameWord : c .held ≡ true → c .word ≡ w .word
+  -- an unused slot isn't blank: behind the last store, and where no contents are
+  pub atStore : c .held ≡ true → p < stores
+  pub blank : c .held ≡ false → c ≡ noContents
+
+-- .. and the cause links beside a sender's contents
+pub record LinksSlot (held : Bool) (links to : List ℕ) : Type 0 where
+  pub long : length to ≡ 16
+  pub sameLinks : (j : ℕ) → j < 16 → held ≡ true → getD to j 0 ≡ getD links j 0
+  pub linksBlank : (j : ℕ) → j < 16 → held ≡ false → getD to j 0 ≡ 0
+
+-- a viewlink, 0 for none, names no store; an unused slot isn't blank: behind the last store, the last interaction
+pub record ViewlinkSlot (stores made p v l : ℕ) : Type 0 where
+  pub linkIn : l ≤ stores
+  pub atStore : 1 ≤ l → p < stores
+  pub atView : 1 ≤ l → v < made * 2
+
+-- the store p: down where it isn't there; its viewlinks, by view
+pub record StoreSlot (stores made p : ℕ) (s : Store) : Type 0 where
+  pub upBlank : stores ≤ p → s .up ≡ false
+  pub long : length (s .viewlinks) ≡ 32
+  pub linkAt : (v : ℕ) → v < 32 → ViewlinkSlot stores made p v (getD (s .viewlinks) v 0)
 
 pub record Unbroken (m : State) : Type 0 where
-  -- every slot is there
   pub sized : Sized m
-  pub queueLong : (a : ℕ) → a < 8 → length (queue m a .views) ≡ 16
-  pub linksLong : (v : ℕ) → v < 32 → length (view m v .links) ≡ 16
-  pub heldLong : (p k : ℕ) → p < 8 → k < 16 → length (causeLinks m p k) ≡ 16
-  pub viewlinksLong : (p : ℕ) → p < 8 → length (shelf m p .viewlinks) ≡ 32
-  -- a number is outside what is said above
   pub made16 : m .made ≤ 16
-  pub actorIn : (v : ℕ) → v < m .made * 2 → view m v .actor < m .actors
-  pub phase5 : (v : ℕ) → v < m .made * 2 → view m v .phase ≤ 5
-  pub queue16 : (a : ℕ) → a < 8 → queue m a .len ≤ 16
-  pub records15 : (p v : ℕ) → p < 8 → v < 32 → recordCopies m p v ≤ 15
-  pub acks15 : (p v : ℕ) → p < 8 → v < 32 → ackCopies m p v ≤ 15
-  pub updates15 : (p v : ℕ) → p < 8 → v < 32 → updateCopies m p v ≤ 15
-  pub uacks15 : (p v : ℕ) → p < 8 → v < 32 → uackCopies m p v ≤ 15
-  -- .. phase 0 is for receivers only, and there just the actor is set; a receiver has no causes
-  pub senderMade : (k : ℕ) → k < m .made → 1 ≤ view m (number k 0) .phase
-  pub receiverCauses : (k : ℕ) → k < m .made → view m (number k 1) .causes ≡ 0
-  pub viewUnset : (v : ℕ) → v < 32 → view m v .phase ≡ 0 → Unset (view m v)
-  -- its setup is illegal (the empty machine's aside)
+  -- its setup is illegal (the empty machine's aside); an unused slot isn't blank: behind the last actor
   pub setup : SetupKind (m .stores) (m .actors) (m .homes) (m .lists)
-  -- an unused slot isn't blank: behind the last actor, the last store, the last interaction, the end of a queue
   pub homeBlank : (a : ℕ) → a < 8 → m .actors ≤ a → home m a ≡ 0
   pub listBlank : (a : ℕ) → a < 8 → m .actors ≤ a → list m a ≡ 0
-  pub queueBlank : (a : ℕ) → a < 8 → m .actors ≤ a → queue m a .len ≡ 0
-  pub upBlank : (p : ℕ) → p < 8 → m .stores ≤ p → isUp m p ≡ false
-  pub actorBlank : (v : ℕ) → v < 32 → m .made * 2 ≤ v → view m v .actor ≡ 0
-  pub phaseBlank : (v : ℕ) → v < 32 → m .made * 2 ≤ v → view m v .phase ≡ 0
-  pub placeBlank : (a i : ℕ) → a < 8 → i < 16 → queue m a .len ≤ i → getD (queue m a .views) i 0 ≡ 0
-  pub recordStore : (p v : ℕ) → p < 8 → v < 32 → 1 ≤ recordCopies m p v → p < m .stores
-  pub ackStore : (p v : ℕ) → p < 8 → v < 32 → 1 ≤ ackCopies m p v → p < m .stores
-  pub updateStore : (p v : ℕ) → p < 8 → v < 32 → 1 ≤ updateCopies m p v → p < m .stores
-  pub uackStore : (p v : ℕ) → p < 8 → v < 32 → 1 ≤ uackCopies m p v → p < m .stores
-  pub contentsStore : (p v : ℕ) → p < 8 → v < 32 → contents m p v .held ≡ true → p < m .stores
-  pub heldViewlinkStore : (p v : ℕ) → p < 8 → v < 32 → 1 ≤ viewlink m p v → p < m .stores
-  pub heldViewlinkMade : (p v : ℕ) → p < 8 → v < 32 → 1 ≤ viewlink m p v → v < m .made * 2
-  -- .. and what holds nothing: a link with no cause, a message, repair or entry that isn't there, a place with no contents
-  pub linkBlank : (v j : ℕ) → v < 32 → j < 16 → bit (view m v .causes) j ≡ false → getD (view m v .links) j 0 ≡ 0
-  pub messageOwnBlank : (k : ℕ) → k < 16 → message m k .flying ≡ false → message m k .own ≡ 0
-  pub messageWordBlank : (k : ℕ) → k < 16 → message m k .flying ≡ false → message m k .word ≡ 0
-  pub repairDestinationBlank : (v : ℕ) → v < 32 → repair m v .flying ≡ false → repair m v .destination ≡ 0
-  pub repairOwnBlank : (v : ℕ) → v < 32 → repair m v .flying ≡ false → repair m v .own ≡ 0
-  pub entryDestinationBlank : (v : ℕ) → v < 32 → statusNumber (entry m v .status) ≡ 0 → entry m v .destination ≡ 0
-  pub entryOwnBlank : (v : ℕ) → v < 32 → statusNumber (entry m v .status) ≡ 0 → entry m v .own ≡ 0
-  pub asserterBlank : (p v : ℕ) → p < 8 → v < 32 → contents m p v .held ≡ false → contents m p v .asserter ≡ 0
-  pub heldCausesBlank : (p v : ℕ) → p < 8 → v < 32 → contents m p v .held ≡ false → contents m p v .causes ≡ 0
-  pub heldWordBlank : (p v : ℕ) → p < 8 → v < 32 → contents m p v .held ≡ false → contents m p v .word ≡ 0
-  pub heldLinkBlank : (p k j : ℕ) → p < 8 → k < 16 → j < 16 → contents m p (number k 0) .held ≡ false → getD (causeLinks m p k) j 0 ≡ 0
-  -- a link, destination, current or own store names no store of it
-  pub storeIn : (v : ℕ) → v < 32 → 1 ≤ view m v .phase → view m v .store < m .stores
-  pub viewlinkIn : (v : ℕ) → v < 32 → 1 ≤ view m v .phase → view m v .viewlink < m .stores
-  pub linkIn : (v j : ℕ) → v < 32 → j < 16 → bit (view m v .causes) j ≡ true → getD (view m v .links) j 0 < m .stores
-  pub messageOwnIn : (k : ℕ) → k < 16 → message m k .flying ≡ true → message m k .own < m .stores
-  pub repairDestinationIn : (v : ℕ) → v < 32 → repair m v .flying ≡ true → repair m v .destination < m .stores
-  pub repairOwnIn : (v : ℕ) → v < 32 → repair m v .flying ≡ true → repair m v .own < m .stores
-  pub entryDestinationIn : (v : ℕ) → v < 32 → 1 ≤ statusNumber (entry m v .status) → entry m v .destination < m .stores
-  pub entryOwnIn : (v : ℕ) → v < 32 → 1 ≤ statusNumber (entry m v .status) → entry m v .own < m .stores
-  pub heldViewlinkIn : (p v : ℕ) → p < 8 → v < 32 → viewlink m p v ≤ m .stores
-  -- contents in a store differ from the view's record
-  pub sameActor : (p v : ℕ) → p < 8 → v < 32 → contents m p v .held ≡ true → contents m p v .asserter ≡ view m v .actor
-  pub sameCauses : (p v : ℕ) → p < 8 → v < 32 → contents m p v .held ≡ true → contents m p v .causes ≡ view m v .causes
-  pub sameWord : (p v : ℕ) → p < 8 → v < 32 → contents m p v .held ≡ true → contents m p v .word ≡ view m v .word
-  pub sameLinks : (p k j : ℕ) → p < 8 → k < 16 → j < 16 → contents m p (number k 0) .held ≡ true → getD (causeLinks m p k) j 0 ≡ getD (view m (number k 0) .links) j 0
-  -- sender equals receiver
-  pub twoActors : (k : ℕ) → k < m .made → view m (number k 1) .actor ≢ view m (number k 0) .actor
-  -- a cause isn't below its key
-  pub causeBelow : (v j : ℕ) → v < 32 → j < 16 → bit (view m v .causes) j ≡ true → j < v / 2
-  -- an application message isn't in flight exactly for receivers in phase 0
-  pub messageMade : (k : ℕ) → k < 16 → message m k .flying ≡ true → k < m .made
-  pub messageUnreceived : (k : ℕ) → k < 16 → message m k .flying ≡ true → view m (number k 1) .phase ≡ 0
-  pub messageSent : (k : ℕ) → k < m .made → view m (number k 1) .phase ≡ 0 → message m k .flying ≡ true
-  -- a view in phase 0 or 1 has a record or ack in flight or contents in a store
-  pub recordReady : (p v : ℕ) → p < 8 → v < 32 → 1 ≤ recordCopies m p v → 2 ≤ view m v .phase
-  pub ackReady : (p v : ℕ) → p < 8 → v < 32 → 1 ≤ ackCopies m p v → 2 ≤ view m v .phase
-  pub contentsReady : (p v : ℕ) → p < 8 → v < 32 → contents m p v .held ≡ true → 2 ≤ view m v .phase
-  -- a view not in phase 5 has a repair or an entry
-  pub repairSettled : (v : ℕ) → v < 32 → repair m v .flying ≡ true → view m v .phase ≡ 5
-  pub entrySettled : (v : ℕ) → v < 32 → 1 ≤ statusNumber (entry m v .status) → view m v .phase ≡ 5
-  -- a view with no entry has an update or uack in flight
-  pub updateEntry : (p v : ℕ) → p < 8 → v < 32 → 1 ≤ updateCopies m p v → 1 ≤ statusNumber (entry m v .status)
-  pub uackEntry : (p v : ℕ) → p < 8 → v < 32 → 1 ≤ uackCopies m p v → 1 ≤ statusNumber (entry m v .status)
-  -- a view in phases 1 to 4 isn't exactly once in its own actor's queue or another view is
+  pub viewAt : (v : ℕ) → v < 32 → ViewSlot (m .stores) (m .actors) (m .made) (view m (v - 1) .actor) v (view m v)
+  -- a view in phases 1 to 4 isn't exactly once in its own actor's queue
   pub queuedOnce : (v : ℕ) → v < 32 → 1 ≤ view m v .phase → view m v .phase ≤ 4 → times v (standing (queue m (view m v .actor))) ≡ 1
-  pub standsOwn : (a i : ℕ) → a < 8 → i < queue m a .len → view m (getD (queue m a .views) i 0) .actor ≡ a
-  pub standsFrom : (a i : ℕ) → a < 8 → i < queue m a .len → 1 ≤ view m (getD (queue m a .views) i 0) .phase
-  pub standsTo : (a i : ℕ) → a < 8 → i < queue m a .len → view m (getD (queue m a .views) i 0) .phase ≤ 4
-  -- a view behind a head isn't in phase 1
-  pub behindHead : (a i : ℕ) → a < 8 → i < queue m a .len → 1 ≤ i → view m (getD (queue m a .views) i 0) .phase ≡ 1
+  pub queueAt : (a : ℕ) → a < 8 → QueueSlot (m .actors) (m .views) a (queue m a)
+  pub messageAt : (k : ℕ) → k < 16 → MessageSlot (m .stores) (m .made) (view m (number k 1) .phase) k (message m k)
+  pub repairAt : (v : ℕ) → v < 32 → RepairSlot (m .stores) (view m v .phase) (repair m v)
+  pub entryAt : (v : ℕ) → v < 32 → EntrySlot (m .stores) (view m v .phase) (entry m v)
+  pub recordAt : (p v : ℕ) → p < 8 → v < 32 → CopySlot (m .stores) p 2 (view m v .phase) (recordCopies m p v)
+  pub ackAt : (p v : ℕ) → p < 8 → v < 32 → CopySlot (m .stores) p 2 (view m v .phase) (ackCopies m p v)
+  pub updateAt : (p v : ℕ) → p < 8 → v < 32 → CopySlot (m .stores) p 1 (statusNumber (entry m v .status)) (updateCopies m p v)
+  pub uackAt : (p v : ℕ) → p < 8 → v < 32 → CopySlot (m .stores) p 1 (statusNumber (entry m v .status)) (uackCopies m p v)
+  pub contentsAt : (p v : ℕ) → p < 8 → v < 32 → ContentsSlot (m .stores) p (view m v) (contents m p v)
+  pub linksAt : (p k : ℕ) → p < 8 → k < 16 → LinksSlot (contents m p (number k 0) .held) (view m (number k 0) .links) (causeLinks m p k)
+  pub storeAt : (p : ℕ) → p < 8 → StoreSlot (m .stores) (m .made) p (shelf m p)

@@ -3,7 +3,7 @@ use Rattle.unbroken.proofs.Laws.Applies.{setup-refusals, refused-setup}
 use Rattle.unbroken.proofs.Laws.Empty.{one-empty}
 use Rattle.unbroken.proofs.Laws.Fresh.{fresh-unbroken, empty-unbroken, fresh-blank}
 use Rattle.unbroken.proofs.Laws.Room.{bounds}
-use Rattle.unbroken.proofs.Laws.Unbroken.{unbroken, whole}
+use Rattle.unbroken.proofs.Laws.Whole.{unbroken, whole}
 use Rattle.keeps.proofs.Applies.{step-refusals}
 use Rattle.keeps.proofs.Keeps.{refusal-gives-back, keeps, step-keeps}
 use Rattle.keeps.proofs.Laws.{one-result as one-step, broken-gives, refused-gives, taken-exactly, taken-gives, answer-zero, joint-same, made-counts, sends-new-key, send-writes-links, receive-writes-link, store-writes-links, refuser-out, constant-out, pretender-out, results-differ}

@@ -10,7 +10,7 @@ use Rattle.protocol.specs.Words.{pick}
 use Rattle.protocol.specs.Setup.{legal, freshWith, emptyMachine, answered, setupOf}
 use Rattle.protocol.specs.declared.Setup.{Setup}
 use Rattle.protocol.specs.Outcome.{Outcome}
-use Rattle.unbroken.specs.EverySlot.{LegalSetup}
+use Rattle.unbroken.specs.Unbroken.{LegalSetup}
 use Rattle.unbroken.specs.Lowest.{IsLowest}
 use Rattle.unbroken.specs.Applies.{Applies, isIllegal, SetupRefusals, RefusedSetup}
 use Rattle.unbroken.proofs.Laws.Says.{Says, not-says, un-splits}

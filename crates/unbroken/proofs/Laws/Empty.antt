@@ -1,7 +1,7 @@
 -- A machine that isn't broken and has no stores, actors or interactions is the empty machine, since each of its slots is blank.
 -- Assumes nothing.
 use Prim.Native.Nat.{ℕ, _/_, _%_, _≤_, _<_}
-use mathlib.Core.Path.{_≡_, refl, sym, ap, _∙_}
+use mathlib.Core.Path.{_≡_, sym, ap, _∙_}
 use mathlib.Core.Bool.{false}
 use mathlib.Core.List.{List}
 use native.Mathlib.Omega.{arith}
@@ -13,12 +13,10 @@ use Rattle.protocol.specs.Views.{blankView, unsetView, relinked}
 use Rattle.protocol.specs.Setup.{blankQueue, blankLinks, freshStore, freshWith, emptyMachine}
 use Rattle.protocol.specs.declared.State.{State}
 use Rattle.protocol.specs.declared.View.{View}
-use Rattle.protocol.specs.declared.Status.{Status}
-use Rattle.protocol.specs.declared.Status.the-variants.{Nothing, ToSend, Waiting, Done}
 use Rattle.unbroken.specs.Blank.{OneEmpty}
-use Rattle.unbroken.specs.EverySlot.{CopySlot, EverySlot}
+use Rattle.unbroken.specs.Unbroken.{CopySlot, Unbroken}
 use Rattle.unbroken.proofs.Laws.Tests.{by-test}
-use Rattle.unbroken.proofs.Laws.Whole.{slots}
+use Rattle.unbroken.proofs.Laws.Whole.{unbroken}
 use Rattle.unbroken.proofs.Laws.Bits.{bit-none}
 
 -- a list with the same at every place: by index, by store and view, by store and key
@@ -37,16 +35,10 @@ links-same l x d e f =
 none-left : (n : ℕ) → (1 ≤ n → ⊥) → n ≡ 0
 none-left n h = omega arith
 
-nothing : (t : Status) → statusNumber t ≡ 0 → t ≡ Nothing
-nothing Nothing e = refl
-nothing ToSend e = absurd (omega arith)
-nothing Waiting e = absurd (omega arith)
-nothing Done e = absurd (omega arith)
-
 no-copies : {stores p least at n : ℕ} → stores ≡ 0 → CopySlot stores p least at n → n ≡ 0
 no-copies {stores} {p} {least} {at} {n} z c = none-left n (λ l. omega (arith, c .atStore l))
 
-module _ (m : State) (s : EverySlot m) (noStores : m .stores ≡ 0) (noActors : m .actors ≡ 0) (noneMade : m .made ≡ 0) where
+module _ (m : State) (s : Unbroken m) (noStores : m .stores ≡ 0) (noActors : m .actors ≡ 0) (noneMade : m .made ≡ 0) where
   phase-blank : (v : ℕ) → v < 32 → view m v .phase ≡ 0
   phase-blank v h = s .viewAt v h .phaseBlank (omega arith)
 
@@ -55,7 +47,7 @@ module _ (m : State) (s : EverySlot m) (noStores : m .stores ≡ 0) (noActors : 
       let w = s .viewAt v h in
       let unset = w .unset (phase-blank v h) in
       let causes = ap (λ (x : View). x .causes) unset in
-      let links = all-same (view m v .links) 16 0 0 (w .linksLong) (λ j b. w .linkBlank j b (ap (λ (c : ℕ). bit c j) causes ∙ bit-none j)) in
+      let links = all-same (view m v .links) 16 0 0 (w .causes .long) (λ j b. w .causes .linkBlank j b (ap (λ (c : ℕ). bit c j) causes ∙ bit-none j)) in
       let actor = w .actorBlank (omega arith) in
       unset ∙ (λ i. relinked (links i) (unsetView (actor i)))
 
@@ -69,29 +61,23 @@ module _ (m : State) (s : EverySlot m) (noStores : m .stores ≡ 0) (noActors : 
   message-blank : (k : ℕ) → k < 16 → message m k ≡ noMessage
   message-blank k h =
       let g = s .messageAt k h in
-      let f : message m k .flying ≡ false = by-test (message m k .flying) (λ t. absurd (omega (arith, g .keyMade t))) (λ t. t) in
-      λ i. record { flying = f i; own = g .ownBlank f i; word = g .wordBlank f i }
+      g .blank (by-test (message m k .flying) (λ t. absurd (omega (arith, g .keyMade t))) (λ t. t))
 
   repair-blank : (v : ℕ) → v < 32 → repair m v ≡ noRepair
   repair-blank v h =
       let r = s .repairAt v h in
-      let f : repair m v .flying ≡ false = by-test (repair m v .flying) (λ t. absurd (omega (arith, r .settled t, phase-blank v h))) (λ t. t) in
-      λ i. record { flying = f i; destination = r .destinationBlank f i; own = r .ownBlank f i }
+      r .blank (by-test (repair m v .flying) (λ t. absurd (omega (arith, r .settled t, phase-blank v h))) (λ t. t))
 
   entry-blank : (v : ℕ) → v < 32 → entry m v ≡ noEntry
   entry-blank v h =
       let e = s .entryAt v h in
-      let z : statusNumber (entry m v .status) ≡ 0 = none-left (statusNumber (entry m v .status)) (λ l. omega (arith, e .settled l, phase-blank v h)) in
-      λ i. record { status = nothing (entry m v .status) z i; destination = e .destinationBlank z i; own = e .ownBlank z i }
+      e .blank (none-left (statusNumber (entry m v .status)) (λ l. omega (arith, e .settled l, phase-blank v h)))
 
   held-none : (p v : ℕ) → p < 8 → v < 32 → contents m p v .held ≡ false
   held-none p v h k = by-test (contents m p v .held) (λ t. absurd (omega (arith, s .contentsAt p v h k .atStore t))) (λ t. t)
 
   contents-blank : (p v : ℕ) → p < 8 → v < 32 → contents m p v ≡ noContents
-  contents-blank p v h k =
-      let c = s .contentsAt p v h k in
-      let f = held-none p v h k in
-      λ i. record { held = f i; asserter = c .actorBlank f i; causes = c .causesBlank f i; word = c .wordBlank f i }
+  contents-blank p v h k = s .contentsAt p v h k .blank (held-none p v h k)
 
   links-blank : (p k : ℕ) → p < 8 → k < 16 → getD (m .links) (linksPlace p k) noLinks ≡ blankLinks
   links-blank p k h b =
@@ -145,4 +131,4 @@ module _ (m : State) (s : EverySlot m) (noStores : m .stores ≡ 0) (noActors : 
       }
 
 pub one-empty : OneEmpty
-one-empty m e = is-empty m (slots m e)
+one-empty m e = is-empty m (unbroken m e)

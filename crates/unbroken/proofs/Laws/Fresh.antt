@@ -1,6 +1,6 @@
 -- The empty machine and the fresh machine of a legal setup are not broken: every slot is blank, and the setup is what it was
 -- made from. Assumes nothing.
-use Prim.Native.Nat.{ℕ, _≤_, _<_}
+use Prim.Native.Nat.{ℕ, _/_, _≤_, _<_}
 use mathlib.Core.Path.{_≡_, refl, ap, _∙_}
 use mathlib.Core.Bool.{Bool, true, false, false≢true}
 use mathlib.Core.List.{List}
@@ -14,13 +14,13 @@ use Rattle.protocol.specs.Views.{blankView}
 use Rattle.protocol.specs.Setup.{blankQueue, blankLinks, freshStore, ofActors, freshWith, emptyMachine, legal}
 use Rattle.protocol.specs.Broken.{brokenOf}
 use Rattle.unbroken.specs.Blank.{Blank}
-use Rattle.unbroken.specs.EverySlot.{SetupKind, none, some, ViewSlot, QueueSlot, MessageSlot, RepairSlot, EntrySlot, CopySlot, ContentsSlot, LinksSlot, ViewlinkSlot, StoreSlot, EverySlot}
+use Rattle.unbroken.specs.Unbroken.{SetupKind, none, some, CausesSlot, ViewSlot, QueueSlot, MessageSlot, RepairSlot, EntrySlot, CopySlot, ContentsSlot, LinksSlot, ViewlinkSlot, StoreSlot, Unbroken}
 use Rattle.protocol.specs.declared.View.{View}
 use Rattle.protocol.specs.declared.Store.{Store}
 use Rattle.unbroken.proofs.Laws.Tests.{not-both}
 use Rattle.unbroken.proofs.Laws.Every.{length-table, table-at}
 use Rattle.unbroken.proofs.Laws.SlotTests.{legal-says}
-use Rattle.unbroken.proofs.Laws.Whole.{slots-whole}
+use Rattle.unbroken.proofs.Laws.Whole.{whole}
 use Rattle.unbroken.proofs.Laws.Bits.{no-bit}
 
 -- an actor's row, and none behind the last
@@ -43,13 +43,14 @@ module _ (stores actors : ℕ) (homes lists : List ℕ) where
         actorAt = λ a h. rw (row actors homes a (omega arith) h, row actors lists a (omega arith) h) (l .actorAt a h);
       })
 
+pub no-causes : (stores key : ℕ) → CausesSlot stores key 0 (replicate 16 0)
+no-causes stores key =
+    record { long = refl; below = λ j b e. no-bit 0 j refl e; linkIn = λ j b e. no-bit 0 j refl e; linkBlank = λ j b e. getD-replicate {A = ℕ} 16 j 0 0 b }
+
 blank-view : (stores actors sender v : ℕ) → v < 32 → ViewSlot stores actors 0 sender v blankView
 blank-view stores actors sender v h =
     record {
-      linksLong = refl;
-      causeBelow = λ j b e. no-bit 0 j refl e;
-      linkIn = λ j b e. no-bit 0 j refl e;
-      linkBlank = λ j b e. getD-replicate {A = ℕ} 16 j 0 0 b;
+      causes = no-causes stores (v / 2);
       storeIn = λ b. absurd (omega arith);
       viewlinkIn = λ b. absurd (omega arith);
       unset = λ b. refl;
@@ -82,8 +83,7 @@ blank-message stores phase k =
       unreceived = λ e. absurd (false≢true e);
       ownIn = λ e. absurd (false≢true e);
       sent = λ h. absurd (omega arith);
-      ownBlank = λ e. refl;
-      wordBlank = λ e. refl;
+      blank = λ e. refl;
     }
 
 pub blank-repair : (stores phase : ℕ) → RepairSlot stores phase noRepair
@@ -92,13 +92,12 @@ blank-repair stores phase =
       settled = λ e. absurd (false≢true e);
       destinationIn = λ e. absurd (false≢true e);
       ownIn = λ e. absurd (false≢true e);
-      destinationBlank = λ e. refl;
-      ownBlank = λ e. refl;
+      blank = λ e. refl;
     }
 
 blank-entry : (stores phase : ℕ) → EntrySlot stores phase noEntry
 blank-entry stores phase =
-    record { settled = λ h. absurd (omega arith); destinationIn = λ h. absurd (omega arith); ownIn = λ h. absurd (omega arith); destinationBlank = λ h. refl; ownBlank = λ h. refl }
+    record { settled = λ h. absurd (omega arith); destinationIn = λ h. absurd (omega arith); ownIn = λ h. absurd (omega arith); blank = λ h. refl }
 
 blank-copies : (stores p least at : ℕ) → CopySlot stores p least at 0
 blank-copies stores p least at = record { copies15 = omega arith; atStore = λ h. absurd (omega arith); atView = λ h. absurd (omega arith) }
@@ -111,9 +110,7 @@ blank-contents stores p w =
       sameActor = λ e. absurd (false≢true e);
       sameCauses = λ e. absurd (false≢true e);
       sameWord = λ e. absurd (false≢true e);
-      actorBlank = λ e. refl;
-      causesBlank = λ e. refl;
-      wordBlank = λ e. refl;
+      blank = λ e. refl;
     }
 
 blank-links : (held : Bool) (links to : List ℕ) → held ≡ false → to ≡ replicate 16 0 → LinksSlot held links to
@@ -145,7 +142,7 @@ module _ (stores actors : ℕ) (homes lists : List ℕ) where
   place-in : (p v : ℕ) → p < 8 → v < 32 → place p v < 256
   place-in p v hp hv = omega arith
 
-  pub fresh-slots : SetupKind stores actors homes lists → EverySlot (freshWith stores actors homes lists)
+  pub fresh-slots : SetupKind stores actors homes lists → Unbroken (freshWith stores actors homes lists)
   unfolding freshWith
   fresh-slots k =
       record {
@@ -170,7 +167,7 @@ module _ (stores actors : ℕ) (homes lists : List ℕ) where
         homeBlank = row-blank actors homes;
         listBlank = row-blank actors lists;
         viewAt = λ v h. rw (view-at v h) (blank-view stores actors _ v h);
-        onceAt = λ v h. rw (view-at v h) (λ b. absurd (omega arith));
+        queuedOnce = λ v h. rw (view-at v h) (λ b. absurd (omega arith));
         queueAt = λ a h. rw (getD-replicate 8 a blankQueue noQueue h) (blank-queue actors a (replicate 32 blankView));
         messageAt = λ k h. rw (getD-replicate 16 k noMessage noMessage h) (blank-message stores _ k);
         repairAt = λ v h. rw (getD-replicate 32 v noRepair noRepair h) (blank-repair stores _);
@@ -188,11 +185,11 @@ module _ (stores actors : ℕ) (homes lists : List ℕ) where
 
 pub fresh-unbroken : (stores actors : ℕ) (homes lists : List ℕ) → legal stores actors homes lists ≡ true → length homes ≡ 8 → length lists ≡ 8 → brokenOf (freshWith stores actors homes lists) ≡ false
 fresh-unbroken stores actors homes lists e long long′ =
-    slots-whole (freshWith stores actors homes lists) (fresh-slots stores actors homes lists (some (legal-says stores actors homes lists long .tells e)))
+    whole (freshWith stores actors homes lists) (fresh-slots stores actors homes lists (some (legal-says stores actors homes lists long .tells e)))
 
 pub empty-unbroken : brokenOf emptyMachine ≡ false
 unfolding emptyMachine
-empty-unbroken = slots-whole (freshWith 0 0 (replicate 8 0) (replicate 8 0)) (fresh-slots 0 0 (replicate 8 0) (replicate 8 0) (none refl refl))
+empty-unbroken = whole (freshWith 0 0 (replicate 8 0) (replicate 8 0)) (fresh-slots 0 0 (replicate 8 0) (replicate 8 0) (none refl refl))
 
 -- a fresh machine is blank beyond its setup, and its setup is the one that it was made from
 pub fresh-blank : (stores actors : ℕ) (homes lists : List ℕ) → Blank (freshWith stores actors homes lists)

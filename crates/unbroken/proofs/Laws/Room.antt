@@ -10,44 +10,60 @@ use native.Mathlib.Decide.{decLt, ℕ-discrete}
 use lib.ListN.{length, getD, length-take, List·getD-eq-default}
 use lib.Seq.{getD-take}
 use Rattle.protocol.specs.Words.{times}
-use Rattle.protocol.specs.Slots.{number, noView, statusNumber, queue, standing, view, entry}
+use Rattle.protocol.specs.Slots.{number, noView, statusNumber, home, list, queue, standing, view, entry}
 use Rattle.protocol.specs.Broken.{brokenOf}
 use Rattle.unbroken.specs.Bounds.{Bounds}
-use Rattle.unbroken.specs.EverySlot.{SetupKind, none, some, EverySlot}
+use Rattle.unbroken.specs.Unbroken.{LegalActor, SetupKind, none, some, Unbroken}
 use Rattle.protocol.specs.declared.State.{State}
 use Rattle.protocol.specs.declared.View.{View}
-use Rattle.unbroken.proofs.Laws.Whole.{slots}
+use Rattle.protocol.specs.declared.Entry.{Entry}
+use Rattle.unbroken.proofs.Laws.Whole.{unbroken}
 use Rattle.unbroken.proofs.Laws.Counting.{few, fewer, times-none}
 
-stores-8 : (stores actors : ℕ) (homes lists : List ℕ) → SetupKind stores actors homes lists → stores ≤ 8
-stores-8 stores actors homes lists (none a b) = omega arith
-stores-8 stores actors homes lists (some l) = l .stores8
+module _ {stores actors : ℕ} {homes lists : List ℕ} where
+  most : SetupKind stores actors homes lists → (stores ≤ 8) × (actors ≤ 8)
+  most (none a b) = (omega arith, omega arith)
+  most (some l) = (l .stores8, l .actors8)
 
-actors-8 : (stores actors : ℕ) (homes lists : List ℕ) → SetupKind stores actors homes lists → actors ≤ 8
-actors-8 stores actors homes lists (none a b) = omega arith
-actors-8 stores actors homes lists (some l) = l .actors8
+  each : SetupKind stores actors homes lists → (a : ℕ) → a < actors → LegalActor stores (getD homes a 0) (getD lists a 0)
+  each (none x y) a h = absurd (omega arith)
+  each (some l) a h = l .actorAt a h
 
-module _ (m : State) (s : EverySlot m) where
+module _ (m : State) (s : Unbroken m) where
   pub stores8 : m .stores ≤ 8
-  stores8 = stores-8 (m .stores) (m .actors) (m .homes) (m .lists) (s .setup)
+  stores8 = most (s .setup) .0
 
   pub actors8 : m .actors ≤ 8
-  actors8 = actors-8 (m .stores) (m .actors) (m .homes) (m .lists) (s .setup)
+  actors8 = most (s .setup) .1
 
-  -- a view in a phase from 1 on is one of an interaction that is made
-  pub made-view : (v : ℕ) → 1 ≤ view m v .phase → v < m .made * 2
-  made-view v h = go (decLt v 32) (decLt v (m .made * 2))
+  pub legal-actor : (a : ℕ) → a < m .actors → LegalActor (m .stores) (home m a) (list m a)
+  legal-actor = each (s .setup)
+
+  -- a view of no interaction is in phase 0
+  pub unmade-view : (v : ℕ) → m .made * 2 ≤ v → view m v .phase ≡ 0
+  unmade-view v h = go (decLt v 32)
     where
-      go : Dec (v < 32) → Dec (v < m .made * 2) → v < m .made * 2
-      go d (yes q) = q
-      go (yes b) (no q) = let z = s .viewAt v b .phaseBlank (omega arith) in absurd (omega arith)
-      go (no b) (no q) =
-          let long = s .sized .views in
-          let z : view m v .phase ≡ 0 = ap (λ w. w .phase) (List·getD-eq-default (m .views) noView {n = v} (omega arith)) in
-          absurd (omega arith)
+      go : Dec (v < 32) → view m v .phase ≡ 0
+      go (yes b) = s .viewAt v b .phaseBlank h
+      go (no b) = ap (λ (w : View). w .phase) (List·getD-eq-default (m .views) noView (omega (arith, s .sized .views)))
+
+  -- .. so one in a phase from 1 on is one of an interaction that is made
+  pub made-view : (v : ℕ) → 1 ≤ view m v .phase → v < m .made * 2
+  made-view v h = go (decLt v (m .made * 2))
+    where
+      go : Dec (v < m .made * 2) → v < m .made * 2
+      go (yes q) = q
+      go (no q) = absurd (omega (arith, unmade-view v (omega arith)))
+
+  pub made-32 : (v : ℕ) → v < m .made * 2 → v < 32
+  made-32 v h = omega (arith, s .made16)
 
   pub view-32 : (v : ℕ) → 1 ≤ view m v .phase → v < 32
-  view-32 v h = let b = made-view v h in let c = s .made16 in omega arith
+  view-32 v h = made-32 v (made-view v h)
+
+  -- .. as a sender's is
+  pub sender-made : (k : ℕ) → k < m .made → 1 ≤ view m (number k 0) .phase
+  sender-made k h = s .viewAt (number k 0) (omega (arith, s .made16)) .senderMade (omega arith) (omega arith)
 
   module _ (a : ℕ) (ha : a < 8) where
     pub standing-long : length (standing (queue m a)) ≡ queue m a .len
@@ -86,7 +102,7 @@ module _ (m : State) (s : EverySlot m) where
         go (yes e) (yes z) f = let r = unmade-absent v z in omega arith
         go (yes e) (no z) (no f) = let r = settled-absent v (omega arith) in omega arith
         go (yes e) (no z) (yes f) =
-            let r = s .onceAt v h (omega arith) (omega arith) in
+            let r = s .queuedOnce v h (omega arith) (omega arith) in
             let t = subst (λ (k : ℕ). times v (standing (queue m k)) ≡ 1) e r in
             omega arith
 
@@ -156,9 +172,9 @@ module _ (m : State) (s : EverySlot m) where
         actorIn8 = actor-8;
         storeIn8 = λ v h. below-8 (view m v .phase) (view m v .store) (s .viewAt v h .storeIn) (λ e. ap (λ (w : View). w .store) (s .viewAt v h .unset e));
         viewlinkIn8 = λ v h. below-8 (view m v .phase) (view m v .viewlink) (s .viewAt v h .viewlinkIn) (λ e. ap (λ (w : View). w .viewlink) (s .viewAt v h .unset e));
-        destinationIn8 = λ v h. below-8 (statusNumber (entry m v .status)) (entry m v .destination) (s .entryAt v h .destinationIn) (s .entryAt v h .destinationBlank);
-        ownIn8 = λ v h. below-8 (statusNumber (entry m v .status)) (entry m v .own) (s .entryAt v h .ownIn) (s .entryAt v h .ownBlank);
+        destinationIn8 = λ v h. below-8 (statusNumber (entry m v .status)) (entry m v .destination) (s .entryAt v h .destinationIn) (λ e. ap (λ (w : Entry). w .destination) (s .entryAt v h .blank e));
+        ownIn8 = λ v h. below-8 (statusNumber (entry m v .status)) (entry m v .own) (s .entryAt v h .ownIn) (λ e. ap (λ (w : Entry). w .own) (s .entryAt v h .blank e));
       }
 
 pub bounds : (m : State) → brokenOf m ≡ false → Bounds m
-bounds m e = bounds-of m (slots m e)
+bounds m e = bounds-of m (unbroken m e)

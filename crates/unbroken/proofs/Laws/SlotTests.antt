@@ -1,6 +1,6 @@
 -- Each test of a slot says the facts of that slot. Assumes nothing.
 use Prim.Native.Nat.{ℕ, _*_, _-_, _/_, _%_, _^_, _≤_, _<_}
-use mathlib.Core.Path.{_≡_, ap}
+use mathlib.Core.Path.{_≡_, refl, ap}
 use mathlib.Core.Bool.{true, false, _&&_, _||_}
 use mathlib.Core.List.{List}
 use native.Mathlib.Omega.{arith}
@@ -11,7 +11,7 @@ use Rattle.protocol.specs.Slots.{number, place, noView, noQueue, noContents, st
 use Rattle.protocol.specs.Setup.{storesIn, legalActor, legalActors, legal}
 use Rattle.protocol.specs.Broken.{linkFine, linksFine, isUnset, phaseFine, madeView, waits, queuedOnce, viewFine, standsFine, queueFine}
 use Rattle.protocol.specs.Broken.{messageFine, repairFine, entryFine, copiesFine, contentsFine, sameLinks, heldLinksFine, viewlinkFine, viewlinksFine, storeFine, setupFine}
-use Rattle.unbroken.specs.EverySlot.{LegalActor, LegalSetup, SetupKind, none, some, Unset, ViewSlot, QueueSlot, MessageSlot, RepairSlot, EntrySlot, CopySlot, ContentsSlot, LinksSlot, ViewlinkSlot, StoreSlot}
+use Rattle.unbroken.specs.Unbroken.{LegalActor, LegalSetup, SetupKind, none, some, Unset, ViewSlot, QueueSlot, MessageSlot, RepairSlot, EntrySlot, CopySlot, ContentsSlot, LinksSlot, ViewlinkSlot, StoreSlot}
 use Rattle.protocol.specs.declared.View.{View}
 use Rattle.protocol.specs.declared.Queue.{Queue}
 use Rattle.protocol.specs.declared.Contents.{Contents}
@@ -20,6 +20,8 @@ use Rattle.protocol.specs.declared.Message.{Message}
 use Rattle.protocol.specs.declared.Repair.{Repair}
 use Rattle.protocol.specs.declared.Entry.{Entry}
 use Rattle.protocol.specs.declared.Store.{Store}
+use Rattle.protocol.specs.declared.Status.{Status}
+use Rattle.protocol.specs.declared.Status.the-variants.{Nothing, ToSend, Waiting as Awaiting, Done}
 use Rattle.unbroken.proofs.Laws.Tests.{by-test, not-both}
 use Rattle.unbroken.proofs.Laws.Says.{Says, le-says, lt-says, eq-says, is-says, le-splits, lt-splits, eq-splits, zero-splits, is-splits, and-says, or-says, not-says, pick-says, all-says, un-splits, not-splits, put-says}
 
@@ -102,10 +104,12 @@ module _ (stores actors made : ℕ) (views : List View) (queues : List Queue) (v
       let p = x .0 .0 .1 in
       let d = x .0 .1 in (
         record {
-          linksLong = l .0;
-          causeBelow = λ j h b. l .1 j (omega arith) .0 b .0;
-          linkIn = λ j h b. l .1 j (omega arith) .0 b .1;
-          linkBlank = λ j h b. l .1 j (omega arith) .1 b;
+          causes = record {
+            long = long;
+            below = λ j h b. l .1 j (omega arith) .0 b .0;
+            linkIn = λ j h b. l .1 j (omega arith) .0 b .1;
+            linkBlank = λ j h b. l .1 j (omega arith) .1 b;
+          };
           storeIn = λ h. p .1 h .0;
           viewlinkIn = λ h. p .1 h .1;
           unset = λ h. unset-view w h (p .0 h);
@@ -123,11 +127,12 @@ module _ (stores actors made : ℕ) (views : List View) (queues : List Queue) (v
   view-back : ViewKept → ViewFacts
   view-back y =
       let s = y .0 in
-      let long = s .linksLong in
+      let c = s .causes in
+      let long = c .long in
       let role : (n : ℕ) → 1 ≤ n % 2 → n % 2 ≡ 1 = λ n h. omega arith in (
         (
           (
-            (long, λ j h. (λ b. (s .causeBelow j (omega arith) b, s .linkIn j (omega arith) b), λ b. s .linkBlank j (omega arith) b)),
+            (long, λ j h. (λ b. (c .below j (omega arith) b, c .linkIn j (omega arith) b), λ b. c .linkBlank j (omega arith) b)),
             (λ h. unset-facts w (s .unset h), λ h. (s .storeIn h, s .viewlinkIn h)),
           ),
           (λ h. ((s .actorIn h, s .phase5 h), (λ r. s .senderMade h r, λ r. (s .receiverCauses h (role v r), s .twoActors h (role v r)))), λ h. (s .actorBlank h, s .phaseBlank h)),
@@ -196,10 +201,9 @@ message-says stores made views k g =
       unreceived = λ h. x .0 h .0 .1;
       ownIn = λ h. x .0 h .1;
       sent = λ h z. by-test (g .flying) (λ e. e) (λ e. absurd (x .1 e .0 .0 (h, z)));
-      ownBlank = λ h. x .1 h .0 .1;
-      wordBlank = λ h. x .1 h .1;
+      blank = λ h i. record { flying = h i; own = x .1 h .0 .1 i; word = x .1 h .1 i };
     })
-    (λ s. (λ h. ((s .keyMade h, s .unreceived h), s .ownIn h), λ h. ((λ p. not-both (g .flying) (s .sent (p .0) (p .1)) h, s .ownBlank h), s .wordBlank h)))
+    (λ s. (λ h. ((s .keyMade h, s .unreceived h), s .ownIn h), λ h. ((λ p. not-both (g .flying) (s .sent (p .0) (p .1)) h, ap (λ (y : Message). y .own) (s .blank h)), ap (λ (y : Message). y .word) (s .blank h))))
 
 pub repair-says : (stores : ℕ) (views : List View) (v : ℕ) (r : Repair) → Says (repairFine stores views v r) (RepairSlot stores (getD views v noView .phase) r)
 unfolding repairFine
@@ -211,10 +215,15 @@ repair-says stores views v r =
       settled = λ h. x .0 h .0 .0;
       destinationIn = λ h. x .0 h .0 .1;
       ownIn = λ h. x .0 h .1;
-      destinationBlank = λ h. x .1 h .0;
-      ownBlank = λ h. x .1 h .1;
+      blank = λ h i. record { flying = h i; destination = x .1 h .0 i; own = x .1 h .1 i };
     })
-    (λ s. (λ h. ((s .settled h, s .destinationIn h), s .ownIn h), λ h. (s .destinationBlank h, s .ownBlank h)))
+    (λ s. (λ h. ((s .settled h, s .destinationIn h), s .ownIn h), λ h. (ap (λ (y : Repair). y .destination) (s .blank h), ap (λ (y : Repair). y .own) (s .blank h))))
+
+no-status : (t : Status) → statusNumber t ≡ 0 → t ≡ Nothing
+no-status Nothing e = refl
+no-status ToSend e = absurd (omega arith)
+no-status Awaiting e = absurd (omega arith)
+no-status Done e = absurd (omega arith)
 
 pub entry-says : (stores : ℕ) (views : List View) (v : ℕ) (e : Entry) → Says (entryFine stores views v e) (EntrySlot stores (getD views v noView .phase) e)
 unfolding entryFine
@@ -226,10 +235,9 @@ entry-says stores views v e =
       settled = λ h. x .1 h .0 .0;
       destinationIn = λ h. x .1 h .0 .1;
       ownIn = λ h. x .1 h .1;
-      destinationBlank = λ h. x .0 h .0;
-      ownBlank = λ h. x .0 h .1;
+      blank = λ h i. record { status = no-status (e .status) h i; destination = x .0 h .0 i; own = x .0 h .1 i };
     })
-    (λ s. (λ h. (s .destinationBlank h, s .ownBlank h), λ h. ((s .settled h, s .destinationIn h), s .ownIn h)))
+    (λ s. (λ h. (ap (λ (y : Entry). y .destination) (s .blank h), ap (λ (y : Entry). y .own) (s .blank h)), λ h. ((s .settled h, s .destinationIn h), s .ownIn h)))
 
 -- copies, of a view of which `may` is asked
 pub copies-says : (stores least : ℕ) (number : ℕ → ℕ) (at n : ℕ) → Says (copiesFine stores (λ v. leb least (number v)) at n) (CopySlot stores (at / 32) least (number (at % 32)) n)
@@ -253,11 +261,9 @@ contents-says stores views at c =
       sameActor = λ h. x .0 h .0 .0 .1;
       sameCauses = λ h. x .0 h .0 .1;
       sameWord = λ h. x .0 h .1;
-      actorBlank = λ h. x .1 h .0 .0;
-      causesBlank = λ h. x .1 h .0 .1;
-      wordBlank = λ h. x .1 h .1;
+      blank = λ h i. record { held = h i; asserter = x .1 h .0 .0 i; causes = x .1 h .0 .1 i; word = x .1 h .1 i };
     })
-    (λ s. (λ h. ((((s .atStore h, s .ready h), s .sameActor h), s .sameCauses h), s .sameWord h), λ h. ((s .actorBlank h, s .causesBlank h), s .wordBlank h)))
+    (λ s. (λ h. ((((s .atStore h, s .ready h), s .sameActor h), s .sameCauses h), s .sameWord h), λ h. ((ap (λ (y : Contents). y .asserter) (s .blank h), ap (λ (y : Contents). y .causes) (s .blank h)), ap (λ (y : Contents). y .word) (s .blank h))))
 
 pub held-links-says : (contents : List Contents) (views : List View) (at : ℕ) (l : Links)
     → Says (heldLinksFine contents views at l) (LinksSlot (getD contents (place (at / 16) (at % 16 * 2)) noContents .held) (getD views (at % 16 * 2) noView .links) (l .to))

@@ -1,8 +1,8 @@
--- A machine is whole exactly if every slot is as `EverySlot` says, and so as `Unbroken` says: `unbroken` and `whole`.
+-- A machine is not broken exactly if every slot is as `Unbroken` says: `unbroken` and `whole`.
 -- The tests go through the arrays by one index; a place's store and view are its quotient and remainder. Assumes nothing.
 use Prim.Native.Nat.{ℕ, _*_, _/_, _%_, _≤_, _<_}
 use mathlib.Core.Path.{_≡_, subst}
-use mathlib.Core.Bool.{true, false, _||_, not}
+use mathlib.Core.Bool.{true, false, _||_}
 use mathlib.Core.List.{List}
 use native.Mathlib.Omega.{arith}
 use lib.ListN.{length, getD}
@@ -11,10 +11,10 @@ use borrow.Author.Tests.{not-false}
 use Rattle.protocol.specs.Slots.{number, place, linksPlace, noView, noQueue, noContents, noLinks, noMessage, noRepair, noEntry, noStore, statusNumber}
 use Rattle.protocol.specs.Slots.{view, queue, entry, contents, shelf}
 use Rattle.protocol.specs.Broken.{slotsFine, setupFine, rowsFine, viewFine, queueFine, messageFine, repairFine, entryFine, copiesFine, recordsFine, updatesFine, contentsFine, heldLinksFine, storeFine, jobsFine, placesFine, wholeOf, brokenOf}
-use Rattle.unbroken.specs.EverySlot.{Sized, QueueSlot, MessageSlot, RepairSlot, EntrySlot, CopySlot, ContentsSlot, LinksSlot, StoreSlot, EverySlot}
+use Rattle.unbroken.specs.Unbroken.{Sized, QueueSlot, MessageSlot, RepairSlot, EntrySlot, CopySlot, ContentsSlot, LinksSlot, StoreSlot, Unbroken}
 use Rattle.protocol.specs.declared.State.{State}
 use Rattle.unbroken.proofs.Laws.Tests.{not-back}
-use Rattle.unbroken.proofs.Laws.Says.{Says, le-says, eq-says, is-says, is-splits, lt-splits, and-says, or-says, not-says, all-says, put-says}
+use Rattle.unbroken.proofs.Laws.Says.{Says, le-says, eq-says, is-says, lt-splits, and-says, or-says, all-says, put-says}
 use Rattle.unbroken.proofs.Laws.SlotTests.{ViewKept, view-says, queue-says, message-says, repair-says, entry-says, copies-says, contents-says, held-links-says, store-says, setup-says}
 
 slots-say : (m : State) → Says (slotsFine m) (Sized m)
@@ -166,7 +166,7 @@ module _ (m : State) where
   links-double : (p k : ℕ) → LinksSlot (contents m p (number k 0) .held) (view m (number k 0) .links) (getD (m .links) (linksPlace p k) noLinks .to) → LinksAt p k (linksPlace p k)
   links-double p k s = let q : number k 0 ≡ k * 2 = omega arith in subst (λ (n : ℕ). LinksSlot (contents m p n .held) (view m n .links) (getD (m .links) (linksPlace p k) noLinks .to)) q s
 
-  every-slot : Parts → EverySlot m
+  every-slot : Parts → Unbroken m
   every-slot x =
       let z = x .0 .0 .0 .0 .0 .0 in
       let j = x .0 .1 in
@@ -179,7 +179,7 @@ module _ (m : State) where
         homeBlank = λ a h. x .0 .0 .0 .1 a (omega arith);
         listBlank = λ a h. x .0 .0 .1 a (omega arith);
         viewAt = λ v h. j .0 .0 .0 .0 v (omega arith) .0;
-        onceAt = λ v h. j .0 .0 .0 .0 v (omega arith) .1;
+        queuedOnce = λ v h. j .0 .0 .0 .0 v (omega arith) .1;
         queueAt = λ a h. j .0 .0 .0 .1 a (omega arith);
         messageAt = λ k h. j .0 .0 .1 k (omega arith);
         repairAt = λ v h. j .0 .1 v (omega arith);
@@ -193,13 +193,13 @@ module _ (m : State) where
         storeAt = λ p′ h. p .1 p′ (omega arith);
       }
 
-  every-part : EverySlot m → Parts
+  every-part : Unbroken m → Parts
   every-part s =
       let z = s .sized in
       let h8 = z .homes in let l8 = z .lists in let q8 = z .queues in let s8 = z .shelves in let g16 = z .messages in let v32 = z .views in let r32 = z .repairs in let e32 = z .entries in (
         (
           ((((z, s .made16), setup-says (m .stores) (m .actors) (m .homes) (m .lists) h8 .told (s .setup)), λ a h. s .homeBlank a (omega arith)), λ a h. s .listBlank a (omega arith)),
-          ((((λ v h. (s .viewAt v (omega arith), s .onceAt v (omega arith)), λ a h. s .queueAt a (omega arith)), λ k h. s .messageAt k (omega arith)), λ v h. s .repairAt v (omega arith)), λ v h. s .entryAt v (omega arith)),
+          ((((λ v h. (s .viewAt v (omega arith), s .queuedOnce v (omega arith)), λ a h. s .queueAt a (omega arith)), λ k h. s .messageAt k (omega arith)), λ v h. s .repairAt v (omega arith)), λ v h. s .entryAt v (omega arith)),
         ),
         (
           (
@@ -222,14 +222,15 @@ module _ (m : State) where
         ),
       )
 
-  whole-says : Says (wholeOf m) (EverySlot m)
+  whole-says : Says (wholeOf m) (Unbroken m)
   whole-says = put-says parts-say every-slot every-part
 
-  -- not broken, slot by slot
-  pub slots : brokenOf m ≡ false → EverySlot m
-  unfolding brokenOf
-  slots e = whole-says .tells (not-false (wholeOf m) e)
+-- a machine that is not broken has every fact of the list
+pub unbroken : (m : State) → brokenOf m ≡ false → Unbroken m
+unfolding brokenOf
+unbroken m e = whole-says m .tells (not-false (wholeOf m) e)
 
-  pub slots-whole : EverySlot m → brokenOf m ≡ false
-  unfolding brokenOf
-  slots-whole s = not-back (wholeOf m) (whole-says .told s)
+-- .. and one that has them all is not broken
+pub whole : (m : State) → Unbroken m → brokenOf m ≡ false
+unfolding brokenOf
+whole m s = not-back (wholeOf m) (whole-says m .told s)
