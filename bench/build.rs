@@ -1,10 +1,12 @@
-//! Links the static library that `rt staticlib bench` writes.
+//! Links the static libraries that `rt staticlib` writes: what is measured by itself, and the library as it is used.
 
 use std::env;
 
 fn main() {
     let root = env::var("CARGO_MANIFEST_DIR").expect("cargo names the crate's folder");
     println!("cargo:rustc-link-search=native={root}/../target/staticlib");
-    println!("cargo:rustc-link-lib=static=bench");
-    println!("cargo:rerun-if-changed={root}/../target/staticlib/libbench.a");
+    for name in ["bench", "tautlichen"] {
+        println!("cargo:rustc-link-lib=static={name}");
+        println!("cargo:rerun-if-changed={root}/../target/staticlib/lib{name}.a");
+    }
 }

@@ -3,7 +3,7 @@
 use std::hint::black_box;
 use std::time::{Duration, Instant};
 
-use peer::book::{self, MAX_STEPS};
+use peer::book::{self, Book, MAX_STEPS};
 use peer::machine::Machine;
 use peer::refusal::number;
 use peer::step::{Step, KINDS};
@@ -171,11 +171,12 @@ fn copies(machine: &Machine) -> Row {
 /// A step with the test for a broken value.
 fn tested(draft: &Draft, step: Step) -> Row {
     let (bytes, machine) = (draft.bytes(), draft.machine().clone());
-    let at = place(told(&machine, step), |at| ours::step(&bytes, step, at, 1));
+    let own = written(step);
+    let at = place(told(&machine, step), |at| ours::step(&bytes, &own, at, 1));
     Row {
         name: named(step),
         aim: None,
-        ours: Side::looped(move |times| ours::step(&bytes, step, at, times)),
+        ours: Side::looped(move |times| ours::step(&bytes, &own, at, times)),
         peer: Side::on_copies(machine, move |machine| machine.take(step)),
     }
 }
@@ -183,14 +184,22 @@ fn tested(draft: &Draft, step: Step) -> Row {
 /// A step of a machine that is known not to be broken.
 fn untested(draft: &Draft, step: Step) -> Row {
     let (bytes, machine) = (draft.bytes(), draft.machine().clone());
-    let alike = ours::step_unbroken(&bytes, step, 1) == told(&machine, step);
+    let own = written(step);
+    let alike = ours::step_unbroken(&bytes, &own, 1) == told(&machine, step);
     assert!(alike, "the answers to {step:?} differ");
     Row {
         name: named(step),
         aim: None,
-        ours: Side::looped(move |times| ours::step_unbroken(&bytes, step, times)),
+        ours: Side::looped(move |times| ours::step_unbroken(&bytes, &own, times)),
         peer: Side::on_copies(machine, move |machine| machine.take_unbroken(step)),
     }
+}
+
+/// A step as ours takes it: as it is written in a book, behind the counts of one with no stores and
+/// no actors.
+fn written(step: Step) -> Vec<u8> {
+    let alone = Book { stores: 0, actors: Vec::new(), steps: vec![step] };
+    alone.bytes().split_off(4)
 }
 
 /// What ours tells of a step: its number and the interactions made.

@@ -1,16 +1,13 @@
 -- A call made turn after turn, on a machine after a book, and what is told of the turns: a sum.
 use Prim.Native.Nat.{ℕ, zero, suc, _+_, _%_, _^_}
 use mathlib.Core.List.{List}
-use lib.Dec.{eqb}
 use lib.ListN.{set}
-use Rattle.protocol.specs.Words.{pick, one}
+use Rattle.protocol.specs.Words.{one}
 use Rattle.protocol.specs.Writes.{withAcks}
 use Rattle.protocol.specs.Broken.{brokenOf}
 use Rattle.protocol.specs.declared.State.{State}
 use Rattle.protocol.specs.declared.Step.{Step}
-use Rattle.protocol.specs.declared.Step.the-variants.{Send}
 use Rattle.protocol.specs.Step.{stepOf}
-use Rattle.protocol.specs.Book.{shortMade}
 use Rattle.protocol.specs.Run.{runOf}
 use Rattle.protocol.specs.Drain.{drainOf}
 use Rattle.protocol.specs.Walk.{walkOf}
@@ -18,10 +15,6 @@ use Rattle.protocol.specs.Walk.{walkOf}
 -- the machine after a book
 abbrev pub after : List ℕ → State
 after book = runOf book 4096 .state
-
--- a step from its kind and its fields; a send has the data word 7 and the last field as its causes
-unfoldable pub stepMade : ℕ → ℕ → ℕ → ℕ → ℕ → Step
-stepMade kind a b c d = pick (eqb kind 1) (Send a b c 7 d) (shortMade kind a b c d)
 
 -- turns n, n - 1, .., 1
 unfoldable pub turns : {A : Type 0} → (ℕ → A → A) → ℕ → A → A

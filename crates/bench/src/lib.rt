@@ -7,16 +7,15 @@
 ghost use mathlib.Core.Path.{_≡_};
 ghost use mathlib.Core.Bool.{false};
 ghost use Prim.Native.Nat.{_+_, _%_};
-ghost use lib.ListN.{length};
 ghost use Rattle.protocol.specs.Words.{pick, one};
 ghost use Rattle.protocol.specs.Broken.{brokenOf};
-ghost use Rattle.protocol.specs.Run.{runOf, bufferOf};
-ghost use Rattle.bench.specs.Turns.{after, turns, summed, turn, brokenTold, walkTold, drainTold, stepTold, stepMade};
+ghost use Rattle.protocol.specs.Book.{onRead, readStep};
+ghost use Rattle.bench.specs.Turns.{after, turns, summed, turn, brokenTold, walkTold, drainTold, stepTold};
 use machine::Machine;
+use protocol::Read;
 use protocol::State;
 use protocol::Step;
-
-mod step;
+use runs::reader;
 
 // The machine after a book of at most 4,096 steps.
 fn after(book: &[u8]) -> State
@@ -121,15 +120,6 @@ fn unbroken_turns(m: State, s: Step, times: u32) -> u32
     sum
 }
 
-// One run of a book: how many of its steps were taken.
-#[no_mangle]
-pub extern "C" fn bench_run(book: &[u8], answers: &mut [u8]) -> u16
-    ensures { λ r. ⌜ (r ≡ runOf (now (book .entry)) (length (now (answers .entry))) .taken) × (now (answers .exit) ≡ bufferOf (now (book .entry)) (now (answers .entry))) ⌝ }
-{
-    let ran = runs::run(book, answers);
-    ran.taken
-}
-
 // How many turns found the machine broken.
 #[no_mangle]
 pub extern "C" fn bench_broken(book: &[u8], at: u8, times: u32) -> u32
@@ -154,39 +144,29 @@ pub extern "C" fn bench_drain(book: &[u8], at: u8, times: u32) -> u32
     drain_turns(after(book), at, times)
 }
 
-// The numbers of the turns' steps, and the interactions of each machine, summed.
+// The numbers of the turns' steps, and the interactions of each machine, summed. The step is given as a book has it; 0 where the
+// bytes are those of none.
 #[no_mangle]
-pub extern "C" fn bench_step(
-    book: &[u8],
-    kind: u8,
-    a: u8,
-    b: u8,
-    c: u8,
-    d: u8,
-    at: u8,
-    times: u32,
-) -> u32
-    ensures { λ r. ⌜ r ≡ turns (turn (stepTold (stepMade kind a b c d)) at) times (after (now (book .entry)), 0) .1 ⌝ }
+pub extern "C" fn bench_step(book: &[u8], step: &[u8], at: u8, times: u32) -> u32
+    ensures { λ r. ⌜ r ≡ onRead (readStep (now (step .entry)) 0) 0 (λ s next. turns (turn (stepTold s) at) times (after (now (book .entry)), 0) .1) ⌝ }
 {
-    step_turns(after(book), step::step(kind, a, b, c, d), at, times)
+    match reader::step_at(step, 0) {
+        Read::Bad => 0,
+        Read::Got(s, _) => step_turns(after(book), s, at, times),
+    }
 }
 
 // The same without the test for a broken value in each turn; 1 if the machine is broken.
 #[no_mangle]
-pub extern "C" fn bench_step_unbroken(
-    book: &[u8],
-    kind: u8,
-    a: u8,
-    b: u8,
-    c: u8,
-    d: u8,
-    times: u32,
-) -> u32
-    ensures { λ r. ⌜ r ≡ pick (brokenOf (after (now (book .entry)))) 1 (turns (λ _ sum. summed sum (stepTold (stepMade kind a b c d) (after (now (book .entry))))) times 0) ⌝ }
+pub extern "C" fn bench_step_unbroken(book: &[u8], step: &[u8], times: u32) -> u32
+    ensures { λ r. ⌜ r ≡ pick (brokenOf (after (now (book .entry)))) 1 (onRead (readStep (now (step .entry)) 0) 0 (λ s next. turns (λ _ sum. summed sum (stepTold s (after (now (book .entry))))) times 0)) ⌝ }
 {
     let m = after(book);
     if broken::is_broken(m) {
         return 1;
     }
-    unbroken_turns(m, step::step(kind, a, b, c, d), times)
+    match reader::step_at(step, 0) {
+        Read::Bad => 0,
+        Read::Got(s, _) => unbroken_turns(m, s, times),
+    }
 }

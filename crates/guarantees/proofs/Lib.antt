@@ -1,12 +1,11 @@
-pub mod Which
 pub mod Local
 pub mod Whole
 pub mod Touches
 pub mod Heads
 pub mod Rules
 pub mod Turns
-pub mod Queues
 pub mod Causes
+pub mod Queues
 pub mod Reached
 pub mod Steps
 pub mod Acks

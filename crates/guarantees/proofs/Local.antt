@@ -80,8 +80,8 @@ abbrev pub statedJob : ℕ → ℕ → Job → Job
 statedJob s d w = record { phase = w .phase; store = w .store; viewlink = w .viewlink; changed = w .changed; flying = w .flying; repairTo = w .repairTo; repairOwn = w .repairOwn; status = s; destination = d; own = w .own }
 
 -- what a step makes of a place
-abbrev pub recordedCell : ℕ → ℕ → Cell → Cell
-recordedCell l a c = record { held = 1; link = l; acks = a; updates = c .updates; uacks = c .uacks }
+abbrev pub heldCell : Cell → Cell
+heldCell c = record { held = 1; link = c .link; acks = c .acks; updates = c .updates; uacks = c .uacks }
 
 abbrev pub countedCell : ℕ → ℕ → ℕ → Cell → Cell
 countedCell a u k c = record { held = c .held; link = c .link; acks = a; updates = u; uacks = k }
@@ -198,23 +198,29 @@ module _ {me ot : Job} {mc oc : Cell} {sent p : ℕ} (a : Good me mc ot oc sent 
     pub stated-ot : Good ot oc (statedJob s (me .destination) me) mc sent p
     stated-ot = search (arith, b .paired, b .first)
 
-  -- copies that come and go: 7, 10, 12, 14
-  pub counted-me : (x u k : ℕ) → (0 < x → 0 < mc .acks) → (0 < u → 0 < me .status) → (0 < k → 0 < mc .uacks) → Good me (countedCell x u k mc) ot oc sent p
-  counted-me x u k f g h = search (arith, a .ackHeld, a .ackLinked, a .uackEntry, a .wrote, a .first, a .firstSent)
+  -- copies that come and go: an ack where contents and viewlink are, an update or a uack of an entry, a uack where the other's link is
+  pub counted-me : (x u k : ℕ) → (0 < x → mc .held ≡ 1) → (0 < x → 0 < mc .link) → (0 < u → 0 < me .status) → (0 < k → 0 < me .status) → (0 < k → oc .link ≡ suc (me .store)) → Good me (countedCell x u k mc) ot oc sent p
+  counted-me x u k f g h i j = search (arith, a .first, a .firstSent)
 
   pub counted-ot : (x u k : ℕ) → Good ot oc me (countedCell x u k mc) sent p
   counted-ot x u k = search (arith, b .first)
 
-  -- 6: a store takes a record
-  module _ (h : 2 ≤ me .phase) (n : ℕ) where
-    pub recorded-me : Good me (recordedCell (filledLink (mc .link) (me .viewlink)) n mc) ot oc sent p
-    recorded-me =
+  -- 6: a store takes a record: contents are there, then a viewlink beside them
+  pub held-me : Good me (heldCell mc) ot oc sent p
+  held-me = search (arith, a .first, a .firstSent)
+
+  pub held-ot : Good ot oc me (heldCell mc) sent p
+  held-ot = search (arith, b .first)
+
+  module _ (h : 2 ≤ me .phase) where
+    pub filled-me : Good me (linkedCell (filledLink (mc .link) (me .viewlink)) mc) ot oc sent p
+    filled-me =
         let x = filled-some (mc .link) (me .viewlink) in
         let l : ot .status ≡ 0 → filledLink (mc .link) (me .viewlink) ≡ suc (me .viewlink) = λ e. filled-first (mc .link) (me .viewlink) (a .linkFirst e) in
         search (arith, a .first, a .firstSent)
 
-    pub recorded-ot : Good ot oc me (recordedCell (filledLink (mc .link) (me .viewlink)) n mc) sent p
-    recorded-ot =
+    pub filled-ot : Good ot oc me (linkedCell (filledLink (mc .link) (me .viewlink)) mc) sent p
+    filled-ot =
         let w : 0 < oc .uacks → filledLink (mc .link) (me .viewlink) ≡ suc (ot .store) = λ g. filled-kept (mc .link) (me .viewlink) (ot .store) (b .wrote g) in
         let f : ot .status ≡ 3 → ot .destination ≡ p → filledLink (mc .link) (me .viewlink) ≡ suc (ot .store) = λ e d. filled-kept (mc .link) (me .viewlink) (ot .store) (b .finished e d) in
         search (arith, b .first)

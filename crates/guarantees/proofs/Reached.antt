@@ -14,28 +14,24 @@ use Rattle.protocol.specs.Slots.{number, queue, standing, view, home, noView, n
 use Rattle.protocol.specs.Broken.{brokenOf}
 use Rattle.unbroken.specs.Unbroken.{Unbroken}
 use Rattle.protocol.specs.declared.State.{State}
-use Rattle.protocol.specs.declared.View.{View}
 use Rattle.protocol.specs.Outcome.{Outcome}
 use Rattle.unbroken.proofs.Laws.{unbroken, bounds}
 use Rattle.unbroken.proofs.Laws.Every.{table-at}
 use Rattle.unbroken.proofs.Laws.Room.{actors8, sender-made}
-use Rattle.protocol.specs.Rule.{head}
 use Rattle.protocol.specs.Send.{sendNo, sent, sentView, awaitedView, joined, homeLink, received}
-use Rattle.protocol.specs.Crash.{crashed}
-use Rattle.protocol.specs.Restart.{restarted}
 use Rattle.protocol.specs.Step.{numberOf, afterOf}
 use Rattle.protocol.specs.declared.Step.{Step}
-use Rattle.protocol.specs.declared.Step.the-variants.{Send, Receive, PreCheck, SendRecord, Timeout, TakeRecord, TakeAck, PostCheck, TakeRepair, SendUpdate, TakeUpdate, TakeUack, Expire, Lose, Crash, Restart}
+use Rattle.protocol.specs.declared.Step.the-variants.{Send}
 use Rattle.keeps.specs.Laws.{madeBy}
 use Rattle.keeps.proofs.Conditions.{taken-when}
 use Rattle.keeps.proofs.Laws.{taken-gives, made-counts}
 use Rattle.keeps.proofs.Onward.{step-onward}
-use Rattle.guarantees.proofs.Which.{Kind, a-send, another, kinds}
+use Rattle.keeps.proofs.Which.{Kind, a-send, another, kinds}
 use Rattle.guarantees.proofs.Whole.{Everywhere}
-use Rattle.guarantees.proofs.Rules.{Homes, here, sends, receives, pre-checks, sends-record, times-out, takes-record, takes-ack, post-checks, takes-repair, sends-update, takes-update, takes-uack, expires, loses, goes-up-or-down}
+use Rattle.guarantees.proofs.Rules.{Homes, here, taken-keeps}
 use Rattle.guarantees.proofs.Turns.{turns}
-use Rattle.guarantees.proofs.Queues.{Line, same, longer, shorter, lines, joined-stands}
-use Rattle.guarantees.proofs.Causes.{Cause, Ahead, ahead-last, ahead-longer, ahead-shorter, times-in, turn-actor, turn-viewlink, turn-causes, keep}
+use Rattle.guarantees.proofs.Queues.{joined-stands, stays-ahead}
+use Rattle.guarantees.proofs.Causes.{Cause, ahead-last, times-in, turn-actor, turn-causes, keep}
 
 unfoldable pub Causes : State → Type 0
 Causes m =
@@ -60,30 +56,14 @@ key m s k h = go (kinds s)
     go (a-send from to own word causes x) =
         let g : afterOf m s .made ≡ m .made + 1 = made-counts m s ∙ ap (madeBy m) x in
         elim (decLt k (m .made)) [ yes l ↦ old l | no n ↦ new from to own word causes x (omega arith) ]
-    go (another e) = let g : afterOf m s .made ≡ m .made = made-counts m s ∙ rw e in old (omega arith)
+    go (another o) = let g = o .made m in old (omega arith)
 
 module _ (m : State) (c : Reached m) where
   u : Unbroken m
   u = unbroken m (c .fine)
 
-  pub everywhere-kept : (s : Step) → numberOf m s ≡ 0 → Everywhere (afterOf m s)
-  unfolding crashed restarted
-  everywhere-kept (Send from to own word causes) e = sends m u (c .everywhere) from to own word causes e
-  everywhere-kept (Receive k) e = receives m u (c .everywhere) (c .homes) k e
-  everywhere-kept (PreCheck a) e = pre-checks m u (c .everywhere) a e
-  everywhere-kept (SendRecord a) e = sends-record m u (c .everywhere) a e
-  everywhere-kept (Timeout a p) e = times-out m u (c .everywhere) a p e
-  everywhere-kept (TakeRecord p k r) e = takes-record m u (c .everywhere) p k r e
-  everywhere-kept (TakeAck p k r) e = takes-ack m u (c .everywhere) p k r e
-  everywhere-kept (PostCheck a) e = post-checks m u (c .everywhere) a e
-  everywhere-kept (TakeRepair k r) e = takes-repair m u (c .everywhere) k r e
-  everywhere-kept (SendUpdate k r) e = sends-update m u (c .everywhere) k r e
-  everywhere-kept (TakeUpdate p k r) e = takes-update m u (c .everywhere) p k r e
-  everywhere-kept (TakeUack p k r) e = takes-uack m u (c .everywhere) p k r e
-  everywhere-kept (Expire k r) e = expires m u (c .everywhere) k r e
-  everywhere-kept (Lose what p k r) e = loses m u (c .everywhere) what p k r e
-  everywhere-kept (Crash p) e = goes-up-or-down m u (c .everywhere) p false
-  everywhere-kept (Restart p) e = goes-up-or-down m u (c .everywhere) p true
+  pub both-kept : (s : Step) → numberOf m s ≡ 0 → Everywhere (afterOf m s) × Homes (afterOf m s)
+  both-kept s e = taken-keeps m s (c .fine) e (c .everywhere, c .homes)
 
   -- a home is read where it was
   home-same : (s : Step) → numberOf m s ≡ 0 → (a : ℕ) → home (afterOf m s) a ≡ home m a
@@ -102,23 +82,6 @@ module _ (m : State) (c : Reached m) where
   new-receiver from to own word causes h =
       getD-set-same (set (m .views) (number (m .made) 0) (sentView m from to own word causes)) (number (m .made) 1) (awaitedView to) noView (rw length-set (omega (arith, u .sized .views)))
 
-  pub homes-kept : (s : Step) → numberOf m s ≡ 0 → Homes (afterOf m s)
-  unfolding Homes
-  homes-kept s e k h = go (key m s k h)
-    where
-      go : Key m s k → view (afterOf m s) (number k 0) .viewlink ≡ home (afterOf m s) (view (afterOf m s) (number k 1) .actor)
-      go (old l) =
-          let a = turns m u (number k 0) (omega arith) s e in
-          let b = turns m u (number k 1) (omega arith) s e in
-          turn-viewlink a (sender-made m u k l) ∙ homes-at k l ∙ sym (home-same s e (view (afterOf m s) (number k 1) .actor) ∙ ap (home m) (turn-actor b))
-        where
-          homes-at : (i : ℕ) → i < m .made → view m (number i 0) .viewlink ≡ home m (view m (number i 1) .actor)
-          homes-at = c .homes
-      go (new from to own word causes x y) =
-          let t = taken-when m (Send from to own word causes) (rw x at e) in
-          subst (λ (z : Step). view (afterOf m z) (number k 0) .viewlink ≡ home (afterOf m z) (view (afterOf m z) (number k 1) .actor)) (sym x)
-          (rw y (ap (λ (w : View). w .viewlink) (new-sender from to own word causes (t .room)) ∙ sym (home-same (Send from to own word causes) (rw x at e) _ ∙ ap (λ (w : View). home m (w .actor)) (new-receiver from to own word causes (t .room)))))
-
   -- a receipt that has not moved is at its actor's home
   unmoved : (j : ℕ) → j < m .made → 1 ≤ view m (number j 1) .phase → view m (number j 1) .changed ≡ false → view m (number j 1) .store ≡ home m (view m (number j 1) .actor)
   unfolding Homes
@@ -128,13 +91,6 @@ module _ (m : State) (c : Reached m) where
     where
       homes-at : (i : ℕ) → i < m .made → view m (number i 0) .viewlink ≡ home m (view m (number i 1) .actor)
       homes-at = c .homes
-
-  -- whoever stands ahead still does, unless it was the head that settled
-  still-ahead : (n : State) (x y a : ℕ) → Line m n a → Ahead x y (standing (queue m a)) → view n x .phase ≢ 5 → Ahead x y (standing (queue n a))
-  still-ahead n x y a (same e) h f = subst (Ahead x y) (sym e) h
-  still-ahead n x y a (longer v e) h f = subst (Ahead x y) (sym e) (ahead-longer x y v (standing (queue m a)) h)
-  still-ahead n x y a (shorter e g) h f =
-      ahead-shorter x y (head m a) (standing (queue n a)) (λ d. f (ap (λ (z : ℕ). view n z .phase) d ∙ g)) (subst (Ahead x y) e h)
 
   other-view : (from to own word causes j : ℕ) → j < m .made → view (sent m from to own word causes) (number j 1) ≡ view m (number j 1)
   unfolding sent
@@ -195,10 +151,10 @@ module _ (m : State) (c : Reached m) where
           let d = turn-actor a in
           let g : bit (view m (number k 0) .causes) j ≡ true = rw (sym (turn-causes a (sender-made m u k l))) b in
           let i : j < k = omega (arith, u .viewAt (number k 0) (omega (arith, u .made16)) .causes .below j hj g) in
-          let q = lines m u (bounds m (c .fine)) (view m (number k 0) .actor) (omega (arith, actors8 m u, u .viewAt (number k 0) (omega (arith, u .made16)) .actorIn (omega arith))) s e in
+          let q : view m (number k 0) .actor < 8 = omega (arith, actors8 m u, u .viewAt (number k 0) (omega (arith, u .made16)) .actorIn (omega arith)) in
           rw (home-same s e (view (afterOf m s) (number k 0) .actor), d)
           (keep m u s j k hj l a (turns m u (number j 1) (omega arith) s e) g (unmoved j (omega arith))
-          (λ x y. still-ahead (afterOf m s) (number j 1) (number k 0) (view m (number k 0) .actor) q x y) (causes-at k l g))
+          (stays-ahead m (c .fine) s e (view m (number k 0) .actor) (number j 1) (number k 0) q) (causes-at k l g))
       go (new from to own word causes x y) =
           subst (λ (z : Step). Cause (home (afterOf m z) (view (afterOf m z) (number k 0) .actor)) (standing (queue (afterOf m z) (view (afterOf m z) (number k 0) .actor))) (number j 1) (number k 0) j (view (afterOf m z) (number k 0)) (view (afterOf m z) (number j 1))) (sym x)
           (new-cause from to own word causes (rw x at e) k y j hj (rw x at b))

@@ -1,51 +1,55 @@
--- Every rule keeps the local record everywhere, and the sender's viewlink the receiver's home. Assumes nothing.
+-- Every change keeps the local record everywhere, and the sender's viewlink the receiver's home; so every step does. Assumes nothing.
 use mathlib.Core.Path.{_≡_, refl, sym, ap, _∙_, subst}
 use mathlib.Core.Logic.{_≢_}
-use mathlib.Core.Bool.{Bool, true, false, _&&_}
+use mathlib.Core.Bool.{Bool, true, false}
 use mathlib.Core.List.{List}
 use Prim.Native.Nat.{ℕ, suc, _+_, _-_, _*_, _≤_, _<_}
 use native.Mathlib.Omega.{arith}
+use native.Mathlib.Decide.{ℕ-discrete}
 use borrow.Author.Tests.{not-true, not-false, eqb-true, eqb-false}
-use lib.Dec.{eqb}
-use lib.ListN.{length, set, length-set}
+use lib.ListN.{length, getD, set, length-set}
 use lib.Seq.{getD-set-same, getD-set-other, set-getD}
 use Rattle.protocol.specs.Words.{pick, one}
-use Rattle.protocol.specs.Slots.{noEntry, noRepair, noMessage, recordCopies, number, place, statusNumber, home, shelf, view, repair, entry, message, contents, viewlink, ackCopies, updateCopies, uackCopies, noView}
-use Rattle.protocol.specs.Writes.{withUpAt, withRecordCopies, withView, withRepair, withEntry, withEntries, withRecords, withLinks, withQueues, withAckCopies, withUpdateCopies, withUackCopies, withViewlink}
+use Rattle.protocol.specs.Slots.{noRepair, noMessage, number, statusNumber, home, shelf, view, repair, entry, message, contents, viewlink, ackCopies, updateCopies, uackCopies, noView}
+use Rattle.protocol.specs.Writes.{withUpAt, withView, withRepair, withEntry, withEntries, withRecords, withLinks, withQueues, withAckCopies, withUpdateCopies, withUackCopies, withViewlink}
+use Rattle.protocol.specs.Broken.{brokenOf}
 use Rattle.unbroken.specs.Unbroken.{Sized, Unbroken}
+use Rattle.unbroken.proofs.Laws.{whole}
 use Rattle.protocol.specs.declared.State.{State}
 use Rattle.protocol.specs.declared.View.{View}
 use Rattle.protocol.specs.declared.Repair.{Repair}
 use Rattle.protocol.specs.declared.Entry.{Entry}
+use Rattle.protocol.specs.declared.Status.{Status}
 use Rattle.protocol.specs.declared.Status.the-variants.{ToSend, Waiting, Done}
 use Rattle.protocol.specs.declared.Contents.{Contents}
 use Rattle.protocol.specs.declared.Links.{Links}
 use Rattle.protocol.specs.declared.Queue.{Queue}
 use Rattle.protocol.specs.Views.{phased}
-use Rattle.protocol.specs.Rule.{head, headView, more}
-use Rattle.protocol.specs.Send.{sendNo, sent, sentView, awaitedView}
-use Rattle.protocol.specs.Receive.{receiveNo, receivedOf, receivedView}
-use Rattle.protocol.specs.PreCheck.{preCheckNo, preChecked, checkedView}
-use Rattle.protocol.specs.SendRecord.{sendRecordNo, recordSent}
-use Rattle.protocol.specs.Timeout.{timeoutNo, timedOut, movedView}
-use Rattle.protocol.specs.TakeRecord.{takeRecordNo, recordTaken, writtenContents, writtenViewlink}
-use Rattle.protocol.specs.TakeAck.{takeAckNo, ackTaken, accepts, isHead, ackedView}
-use Rattle.protocol.specs.PostCheck.{postCheckNo, postChecked, askedRepair}
-use Rattle.protocol.specs.TakeRepair.{takeRepairNo, repairTaken, entered, toSend}
-use Rattle.protocol.specs.SendUpdate.{sendUpdateNo, updateSent, inStatus}
-use Rattle.protocol.specs.TakeUpdate.{takeUpdateNo, updateTaken}
-use Rattle.protocol.specs.TakeUack.{takeUackNo, uackTaken, finishedEntry}
-use Rattle.protocol.specs.Expire.{expireNo, expired}
-use Rattle.protocol.specs.Lose.{loseNo, lost}
-use Rattle.protocol.specs.declared.Step.the-variants.{Send, Receive, PreCheck, SendRecord, Timeout, TakeRecord, TakeAck, PostCheck, TakeRepair, SendUpdate, TakeUpdate, TakeUack, Expire, Lose}
-use Rattle.keeps.proofs.Conditions.{taken-when}
+use Rattle.protocol.specs.Rule.{head}
+use Rattle.protocol.specs.Send.{sent, sentView, awaitedView}
+use Rattle.protocol.specs.Receive.{receivedOf, receivedView}
+use Rattle.protocol.specs.PreCheck.{checkedView}
+use Rattle.protocol.specs.Timeout.{movedView}
+use Rattle.protocol.specs.TakeRecord.{writtenContents, writtenViewlink}
+use Rattle.protocol.specs.PostCheck.{postChecked, askedRepair}
+use Rattle.protocol.specs.TakeRepair.{repairTaken, entered, toSend}
+use Rattle.protocol.specs.SendUpdate.{inStatus}
+use Rattle.protocol.specs.Step.{numberOf, afterOf}
+use Rattle.protocol.specs.declared.Step.{Step}
+use Rattle.keeps.specs.Taken.{HeadIn, ViewOf, PlaceOf, SendTaken, ReceiveTaken, TakeRepairTaken}
+use Rattle.keeps.specs.Change.{HeadMove, isChecked, isSent, isMoved, isAcked, withFlight, FlightMove, recordComes, recordGoes, ackComes, ackGoes, updateComes, updateGoes, uackComes, uackGoes}
+use Rattle.keeps.specs.Change.{withHeld, LinkMove, isWritten, isUpdated, StatusMove, isWaiting, isExpired, isDone, Change, onUp, onSend, onReceive, onHead, onSettle, onFlight, onHeld, onViewlink, onStatus, onRepair}
+use Rattle.keeps.specs.Onward.{Onward}
+use Rattle.keeps.proofs.Changes.{taken-related}
+use Rattle.keeps.proofs.Onward.{change-onward}
+use Rattle.keeps.proofs.Laws.{sends-new-key}
 use Rattle.guarantees.proofs.Local
 use Rattle.guarantees.proofs.Local.{Job, Good}
 use Rattle.guarantees.proofs.Whole.{job, jobOf, cell, Here, Everywhere, touched}
 use Rattle.unbroken.proofs.Laws.Room.{stores8, sender-made}
 use Rattle.unbroken.proofs.Shelves.{store-back, turned-link}
 use Rattle.guarantees.proofs.Touches.{withPlace, at-store, at-stores, update-touch, view-touch, repair-touch, entries-touch, entry-touch, place-touch}
-use Rattle.guarantees.proofs.Heads.{Headed, keyOf, roleOf, and-true, headed}
+use Rattle.guarantees.proofs.Heads.{Headed, keyOf, roleOf, headed}
 
 written-held : (c : Contents) (w : View) → one (writtenContents c w .held) ≡ 1
 written-held c w = go (c .held) refl
@@ -65,12 +69,6 @@ one-false false e = refl
 -- the sender's viewlink is the receiver's home
 unfoldable pub Homes : State → Type 0
 Homes m = (k : ℕ) → k < m .made → view m (number k 0) .viewlink ≡ home m (view m (number k 1) .actor)
-
-sized-view : (m : State) (v : ℕ) (w : View) → Sized m → Sized (withView m v w)
-sized-view m v w z = search (length-set, z)
-
-sized-entry : (m : State) (v : ℕ) (e : Entry) → Sized m → Sized (withEntry m v e)
-sized-entry m v e z = search (length-set, z)
 
 -- arrays that the record doesn't speak of
 same-slots : (m : State) (l : List ℕ) (ls : List Links) (qs : List Queue) → Everywhere m → Everywhere (withQueues (withLinks (withRecords m l) ls) qs)
@@ -144,20 +142,20 @@ module _ (m : State) (z : Sized m) (fits : m .made ≤ 16) (inv : Everywhere m) 
 
   -- copies: what stands at a place stays but for a count
   module _ (k r p : ℕ) (hk : k < m .made) (hr : r < 2) (hp : p < 8) (row : length (shelf m p .viewlinks) ≡ 32) where
-    pub with-acks : (n : ℕ) → (0 < n → 0 < ackCopies m p (number k r)) → Everywhere (withAckCopies m p (number k r) n)
-    with-acks n f =
+    with-acks : (n : ℕ) → (0 < n → one (contents m p (number k r) .held) ≡ 1) → (0 < n → 0 < viewlink m p (number k r)) → Everywhere (withAckCopies m p (number k r) n)
+    with-acks n f g =
         simp (set-getD, store-back) at (by-place k r hk hr p hp row (contents m p (number k r)) (viewlink m p (number k r)) n (updateCopies m p (number k r)) (uackCopies m p (number k r))
-        (λ a b. Local.counted-me a b n _ _ f (a .updateEntry) (λ h. h)) (λ a b. Local.counted-ot a b n _ _))
+        (λ a b. Local.counted-me a b n _ _ f g (a .updateEntry) (a .uackEntry) (a .wrote)) (λ a b. Local.counted-ot a b n _ _))
 
-    pub with-updates : (n : ℕ) → (0 < n → 0 < statusNumber (entry m (number k r) .status)) → Everywhere (withUpdateCopies m p (number k r) n)
+    with-updates : (n : ℕ) → (0 < n → 0 < statusNumber (entry m (number k r) .status)) → Everywhere (withUpdateCopies m p (number k r) n)
     with-updates n f =
         simp (set-getD, store-back) at (by-place k r hk hr p hp row (contents m p (number k r)) (viewlink m p (number k r)) (ackCopies m p (number k r)) n (uackCopies m p (number k r))
-        (λ a b. Local.counted-me a b _ n _ (λ h. h) f (λ h. h)) (λ a b. Local.counted-ot a b _ n _))
+        (λ a b. Local.counted-me a b _ n _ (a .ackHeld) (a .ackLinked) f (a .uackEntry) (a .wrote)) (λ a b. Local.counted-ot a b _ n _))
 
-    pub with-uacks : (n : ℕ) → (0 < n → 0 < uackCopies m p (number k r)) → Everywhere (withUackCopies m p (number k r) n)
-    with-uacks n f =
+    with-uacks : (n : ℕ) → (0 < n → 0 < statusNumber (entry m (number k r) .status)) → (0 < n → viewlink m p (number k (1 - r)) ≡ suc (view m (number k r) .store)) → Everywhere (withUackCopies m p (number k r) n)
+    with-uacks n f g =
         simp (set-getD, store-back) at (by-place k r hk hr p hp row (contents m p (number k r)) (viewlink m p (number k r)) (ackCopies m p (number k r)) (updateCopies m p (number k r)) n
-        (λ a b. Local.counted-me a b _ _ n (λ h. h) (a .updateEntry) f) (λ a b. Local.counted-ot a b _ _ n))
+        (λ a b. Local.counted-me a b _ _ n (a .ackHeld) (a .ackLinked) (a .updateEntry) f g) (λ a b. Local.counted-ot a b _ _ n))
 
 module _ (m : State) (u : Unbroken m) (inv : Everywhere m) where
   z : Sized m
@@ -166,30 +164,27 @@ module _ (m : State) (u : Unbroken m) (inv : Everywhere m) where
   fits : m .made ≤ 16
   fits = u .made16
 
-  -- 3, 4, 5
-  pub pre-checks : (a : ℕ) → preCheckNo m a ≡ 0 → Everywhere (preChecked m a)
-  unfolding preChecked
-  pre-checks a e =
+  -- 3, 4, 5, 7: the head's record
+  head-goes : (a : ℕ) (w : View) → HeadMove m a w → Everywhere (withView m (head m a) w)
+  head-goes a w (isChecked h) =
       at-head m z fits inv (λ x. Everywhere (withView m x (checkedView m (view m x)))) 1
-      (λ k r hk hr h. by-view m z fits inv k r hk hr (checkedView m (view m (number k r)))
+      (λ k r hk hr e. by-view m z fits inv k r hk hr (checkedView m (view m (number k r)))
       (λ p hp x y. Local.phased-me x y 2 (omega arith) (omega arith) (omega arith) (omega arith)) (λ p hp x y. Local.phased-ot x y 2 (omega arith) (omega arith)))
-      a (headed m u a 1 (taken-when m (PreCheck a) e))
-
-  pub sends-record : (a : ℕ) → sendRecordNo m a ≡ 0 → Everywhere (recordSent m a)
-  unfolding recordSent
-  sends-record a e =
-      same-slots (withView m (head m a) (phased 3 (headView m a))) _ (m .links) (m .queues)
-      (at-head m z fits inv (λ x. Everywhere (withView m x (phased 3 (view m x)))) 2
-      (λ k r hk hr h. by-view m z fits inv k r hk hr (phased 3 (view m (number k r)))
+      a (headed m u a 1 h)
+  head-goes a w (isSent h) =
+      at-head m z fits inv (λ x. Everywhere (withView m x (phased 3 (view m x)))) 2
+      (λ k r hk hr e. by-view m z fits inv k r hk hr (phased 3 (view m (number k r)))
       (λ p hp x y. Local.phased-me x y 3 (omega arith) (omega arith) (omega arith) (omega arith)) (λ p hp x y. Local.phased-ot x y 3 (omega arith) (omega arith)))
-      a (headed m u a 2 (taken-when m (SendRecord a) e)))
-
-  pub times-out : (a p : ℕ) → timeoutNo m a p ≡ 0 → Everywhere (timedOut m a p)
-  unfolding timedOut
-  times-out a p e =
+      a (headed m u a 2 h)
+  head-goes a w (isMoved p t) =
       at-head m z fits inv (λ x. Everywhere (withView m x (movedView p (view m x)))) 3
-      (λ k r hk hr h. by-view m z fits inv k r hk hr (movedView p (view m (number k r))) (λ q hq x y. Local.moved-me x y h p) (λ q hq x y. Local.moved-ot x y h p))
-      a (headed m u a 3 (taken-when m (Timeout a p) e .head))
+      (λ k r hk hr e. by-view m z fits inv k r hk hr (movedView p (view m (number k r))) (λ q hq x y. Local.moved-me x y e p) (λ q hq x y. Local.moved-ot x y e p))
+      a (headed m u a 3 (t .head))
+  head-goes a w (isAcked p h at c) =
+      at-head m z fits inv (λ x. view m x .store ≡ p → 1 ≤ ackCopies m p x → Everywhere (withView m x (phased 4 (view m x)))) 3
+      (λ k r hk hr e f n. by-view m z fits inv k r hk hr (phased 4 (view m (number k r)))
+      (λ q hq x y. Local.acked-me x y e (λ d. subst (λ (s : ℕ). 0 < ackCopies m s (number k r)) (sym f ∙ d) n)) (λ q hq x y. Local.phased-ot x y 4 (omega arith) (omega arith)))
+      a (headed m u a 3 h) at c
 
   -- 8
   settles : (k r : ℕ) → k < m .made → r < 2 → view m (number k r) .phase ≡ 4
@@ -213,53 +208,71 @@ module _ (m : State) (u : Unbroken m) (inv : Everywhere m) where
           subst with (sym (ap (λ (b : Bool). pick b asks (repair m (number k r))) c))
           (by-repair m z fits inv k r hk hr (phased 5 w) (repair m (number k r)) (λ p hp x y. Local.settled-me x y h (rw c refl)) (λ p hp x y. Local.phased-ot x y 5 (omega arith) (omega arith)))
 
-  pub post-checks : (a : ℕ) → postCheckNo m a ≡ 0 → Everywhere (postChecked m a)
+  post-checks : (a : ℕ) → HeadIn 4 m a → Everywhere (postChecked m a)
   unfolding postChecked
   post-checks a e =
       same-slots _ (m .records) (m .links) _
-      (at-head m z fits inv (λ x. Everywhere (withRepair (withView m x (phased 5 (view m x))) x (askedRepair (repair m x) (view m x)))) 4 settles a (headed m u a 4 (taken-when m (PostCheck a) e)))
+      (at-head m z fits inv (λ x. Everywhere (withRepair (withView m x (phased 5 (view m x))) x (askedRepair (repair m x) (view m x)))) 4 settles a (headed m u a 4 e))
 
-  -- 7: the ack is accepted, or only goes
-  pub takes-ack : (p k r : ℕ) → takeAckNo m p k r ≡ 0 → Everywhere (ackTaken m p k r)
-  unfolding ackTaken
-  takes-ack p k r e =
-      let t = taken-when m (TakeAck p k r) e in
-      let hp : p < 8 = omega (arith, stores8 m u, t .place .storeIn) in
-      let hk = t .place .keyIn in
-      let hr = t .place .roleIn in
-      with-acks (withView m (number k r) (ackedView m p (number k r))) (sized-view m (number k r) (ackedView m p (number k r)) z) fits (go (accepts m p (number k r)) refl hp hk hr (t .copy)) k r p hk hr hp (u .storeAt p hp .long) _ (λ h. omega (arith, t .copy))
-    where
-      with : View → Type 0
-      with w = Everywhere (withView m (number k r) w)
+  -- copies come and go: those of records aren't spoken of
+  module _ (p k r : ℕ) (o : PlaceOf m p k r) where
+    in8 : p < 8
+    in8 = omega (arith, stores8 m u, o .storeIn)
 
-      go : (b : Bool) → accepts m p (number k r) ≡ b → p < 8 → k < m .made → r < 2 → 0 < ackCopies m p (number k r) → Everywhere (withView m (number k r) (ackedView m p (number k r)))
-      go true c hp hk hr n =
-          let a = and-true (isHead m (number k r) && eqb (view m (number k r) .phase) 3) (eqb (view m (number k r) .store) p) c in
-          let b = and-true (isHead m (number k r)) (eqb (view m (number k r) .phase) 3) (a .0) in
-          let f = eqb-true (view m (number k r) .phase) 3 (b .1) in
-          let g = eqb-true (view m (number k r) .store) p (a .1) in
-          subst with (sym (ap (λ (b : Bool). pick b (phased 4 (view m (number k r))) (view m (number k r))) c))
-          (by-view m z fits inv k r hk hr (phased 4 (view m (number k r)))
-          (λ q hq x y. Local.acked-me x y f (λ d. subst (λ (s : ℕ). 0 < ackCopies m s (number k r)) (sym g ∙ d) n)) (λ q hq x y. Local.phased-ot x y 4 (omega arith) (omega arith)))
-      go false c hp hk hr n =
-          subst with (sym (ap (λ (b : Bool). pick b (phased 4 (view m (number k r))) (view m (number k r))) c))
-          (by-view m z fits inv k r hk hr (view m (number k r)) (λ q hq x y. x) (λ q hq x y. y))
+    at-place : Good (job m (number k r)) (cell m p (number k r)) (job m (number k (1 - r))) (cell m p (number k (1 - r))) (message m k .own) p
+    at-place = here m z fits inv k r p (o .keyIn) (o .roleIn) in8
 
-  -- 6: contents are there from now on, and a viewlink beside them
-  pub takes-record : (p k r : ℕ) → takeRecordNo m p k r ≡ 0 → Everywhere (recordTaken m p k r)
-  unfolding recordTaken
-  takes-record p k r e =
-      let t = taken-when m (TakeRecord p k r) e in
-      let hp : p < 8 = omega (arith, stores8 m u, t .place .storeIn) in
-      let hv : number k r < 32 = omega (arith, fits, t .place .keyIn, t .place .roleIn) in
-      let g = u .recordAt p (number k r) hp hv .atView (t .copy) in
+    acks-go : (n : ℕ) → (0 < n → one (contents m p (number k r) .held) ≡ 1) → (0 < n → 0 < viewlink m p (number k r)) → Everywhere (withAckCopies m p (number k r) n)
+    acks-go = with-acks m z fits inv k r p (o .keyIn) (o .roleIn) in8 (u .storeAt p in8 .long)
+
+    updates-go : (n : ℕ) → (0 < n → 0 < statusNumber (entry m (number k r) .status)) → Everywhere (withUpdateCopies m p (number k r) n)
+    updates-go = with-updates m z fits inv k r p (o .keyIn) (o .roleIn) in8 (u .storeAt p in8 .long)
+
+    uacks-go : (n : ℕ) → (0 < n → 0 < statusNumber (entry m (number k r) .status)) → (0 < n → viewlink m p (number k (1 - r)) ≡ suc (view m (number k r) .store)) → Everywhere (withUackCopies m p (number k r) n)
+    uacks-go = with-uacks m z fits inv k r p (o .keyIn) (o .roleIn) in8 (u .storeAt p in8 .long)
+
+  flies : (records acks updates uacks : List ℕ) → FlightMove m records acks updates uacks → Everywhere (withFlight m records acks updates uacks)
+  flies records acks updates uacks (recordComes p v hs hm e f) = same-slots m _ (m .links) (m .queues) inv
+  flies records acks updates uacks (recordGoes p k r o c) = same-slots m _ (m .links) (m .queues) inv
+  flies records acks updates uacks (ackComes p k r o h l) = acks-go p k r o _ (λ n. ap one h) (λ n. l)
+  flies records acks updates uacks (ackGoes p k r o c) = acks-go p k r o _ (λ n. at-place p k r o .ackHeld c) (λ n. at-place p k r o .ackLinked c)
+  flies records acks updates uacks (updateComes p k r o e f) = updates-go p k r o _ (λ n. omega (arith, ap statusNumber e))
+  flies records acks updates uacks (updateGoes p k r o c) = updates-go p k r o _ (λ n. at-place p k r o .updateEntry c)
+  flies records acks updates uacks (uackComes p k r o c l) =
+      let a = at-place p k r o in
+      let s = a .updateEntry c in
+      uacks-go p k r o _ (λ n. s) (λ n. omega (arith, l, a .entryOwn s))
+  flies records acks updates uacks (uackGoes p k r o c) = uacks-go p k r o _ (λ n. at-place p k r o .uackEntry c) (λ n. at-place p k r o .wrote c)
+
+  -- 6: contents are there from now on
+  holds : (p k r : ℕ) → PlaceOf m p k r → Everywhere (withHeld m p k r)
+  holds p k r o =
+      let hp = in8 p k r o in
       let c = writtenContents (contents m p (number k r)) (view m (number k r)) in
       let f : one (c .held) ≡ 1 = written-held (contents m p (number k r)) (view m (number k r)) in
-      let n = more (ackCopies m p (number k r)) in
-      let l = writtenViewlink (viewlink m p (number k r)) (view m (number k r)) in
-      same-slots _ _ _ (m .queues)
-      (simp set-getD at (by-place m z fits inv k r (t .place .keyIn) (t .place .roleIn) p hp (u .storeAt p hp .long) c l n (updateCopies m p (number k r)) (uackCopies m p (number k r))
-      (λ a b. rw f (Local.recorded-me a b g n)) (λ a b. rw f (Local.recorded-ot a b g n))))
+      same-slots _ (m .records) _ (m .queues)
+      (simp (set-getD, store-back) at (by-place m z fits inv k r (o .keyIn) (o .roleIn) p hp (u .storeAt p hp .long) c (viewlink m p (number k r)) (ackCopies m p (number k r)) (updateCopies m p (number k r)) (uackCopies m p (number k r))
+      (λ a b. rw f (Local.held-me a b)) (λ a b. rw f (Local.held-ot a b))))
+
+  -- 6, 11: a viewlink is written
+  links : (p k v link : ℕ) → p < m .stores → k < m .made → LinkMove m p k v link → Everywhere (withViewlink m p v link)
+  links p k v link hs hk (isWritten r hr c h) =
+      let hp : p < 8 = omega (arith, stores8 m u) in
+      let hv : number k r < 32 = omega (arith, fits) in
+      let g = u .recordAt p (number k r) hp hv .atView c in
+      simp set-getD at (by-place m z fits inv k r hk hr p hp (u .storeAt p hp .long) (contents m p (number k r)) (writtenViewlink (viewlink m p (number k r)) (view m (number k r))) (ackCopies m p (number k r)) (updateCopies m p (number k r)) (uackCopies m p (number k r))
+      (λ a b. Local.filled-me a b g) (λ a b. Local.filled-ot a b g))
+  links p k v link hs hk (isUpdated r hr c) =
+      let hp : p < 8 = omega (arith, stores8 m u) in
+      let l = entry m (number k r) .own + 1 in
+      let n = updateCopies m p (number k r) in
+      let y = uackCopies m p (number k r) in
+      let a = here m z fits inv k r p hk hr hp in
+      let b = there m z fits inv k r p hk hr hp in
+      let s = a .updateEntry c in
+      simp set-getD at (touched m _ k r _ _ _ _ hr (update-touch m z k r (omega (arith, fits)) hr p hp (u .storeAt p hp .long) l n y) (λ j h x. h) fits inv
+      (at-stores (λ q x x′. Good (job m (number k r)) x (job m (number k (1 - r))) x′ (message m k .own) q) p _ _ (λ q. cell m q (number k r)) (λ q. cell m q (number k (1 - r))) (Local.updated-me a b s n y) (λ q hq. here m z fits inv k r q hk hr hq))
+      (at-stores (λ q x x′. Good (job m (number k (1 - r))) x′ (job m (number k r)) x (message m k .own) q) p _ _ (λ q. cell m q (number k r)) (λ q. cell m q (number k (1 - r))) (Local.updated-ot a b s n y) (λ q hq. there m z fits inv k r q hk hr hq)))
 
   -- 10, 13: an entry's status
   with-status : (k r s : ℕ) (e : Entry) → k < m .made → r < 2 → 0 < statusNumber (entry m (number k r) .status) → statusNumber (e .status) ≡ s → 0 < s → s < 3
@@ -268,101 +281,31 @@ module _ (m : State) (u : Unbroken m) (inv : Everywhere m) where
       by-entry m z fits inv k r hk hr e
       (λ p hp x y. rw (g, d, o) (Local.stated-me x y s h i (omega arith) (λ q. absurd (omega arith)))) (λ p hp x y. rw (g, d, o) (Local.stated-ot x y s h i (omega arith)))
 
-  pub sends-update : (k r : ℕ) → sendUpdateNo m k r ≡ 0 → Everywhere (updateSent m k r)
-  unfolding updateSent
-  sends-update k r e =
-      let t = taken-when m (SendUpdate k r) e in
-      let hv : number k r < 32 = omega (arith, fits, t .view .keyIn, t .view .roleIn) in
-      let h : 0 < statusNumber (entry m (number k r) .status) = omega (arith, ap statusNumber (t .due)) in
-      let w = inStatus Waiting (entry m (number k r)) in
-      let p = entry m (number k r) .destination in
-      let hp : p < 8 = omega (arith, stores8 m u, u .entryAt (number k r) hv .destinationIn h) in
-      with-updates (withEntry m (number k r) w) (sized-entry m (number k r) w z) fits (with-status k r 2 w (t .view .keyIn) (t .view .roleIn) h refl (omega arith) (omega arith) refl refl) k r p (t .view .keyIn) (t .view .roleIn) hp (u .storeAt p hp .long) _
-      (λ x. rw (getD-set-same (m .entries) (number k r) w noEntry (omega (arith, z .entries))) (omega arith))
-
-  pub expires : (k r : ℕ) → expireNo m k r ≡ 0 → Everywhere (expired m k r)
-  unfolding expired
-  expires k r e =
-      let t = taken-when m (Expire k r) e in
-      with-status k r 1 (inStatus ToSend (entry m (number k r))) (t .view .keyIn) (t .view .roleIn) (omega (arith, ap statusNumber (t .waits))) refl (omega arith) (omega arith) refl refl
-
-  -- 14
-  pub loses : (what p k r : ℕ) → loseNo m what p k r ≡ 0 → Everywhere (lost m what p k r)
-  unfolding lost
-  loses what p k r e =
-      let t = taken-when m (Lose what p k r) e in
-      let hp : p < 8 = omega (arith, stores8 m u, t .place .storeIn) in
-      go (eqb what 0) (eqb what 1) (eqb what 2) hp (t .place .keyIn) (t .place .roleIn)
-    where
-      go : (a b c : Bool) → p < 8 → k < m .made → r < 2
-          → Everywhere (pick a (withRecordCopies m p (number k r) (pick a (recordCopies m p (number k r)) (pick b (ackCopies m p (number k r)) (pick c (updateCopies m p (number k r)) (uackCopies m p (number k r)))) - 1))
-          (pick b (withAckCopies m p (number k r) (pick a (recordCopies m p (number k r)) (pick b (ackCopies m p (number k r)) (pick c (updateCopies m p (number k r)) (uackCopies m p (number k r)))) - 1))
-          (pick c (withUpdateCopies m p (number k r) (pick a (recordCopies m p (number k r)) (pick b (ackCopies m p (number k r)) (pick c (updateCopies m p (number k r)) (uackCopies m p (number k r)))) - 1))
-          (withUackCopies m p (number k r) (pick a (recordCopies m p (number k r)) (pick b (ackCopies m p (number k r)) (pick c (updateCopies m p (number k r)) (uackCopies m p (number k r)))) - 1)))))
-      go true b c hp hk hr = same-slots m _ (m .links) (m .queues) inv
-      go false true c hp hk hr = with-acks m z fits inv k r p hk hr hp (u .storeAt p hp .long) _ (λ h. omega arith)
-      go false false true hp hk hr =
-          with-updates m z fits inv k r p hk hr hp (u .storeAt p hp .long) _ (λ h. u .updateAt p (number k r) hp (omega arith) .atView (omega arith))
-      go false false false hp hk hr = with-uacks m z fits inv k r p hk hr hp (u .storeAt p hp .long) _ (λ h. omega arith)
+  states : (k r : ℕ) (t : Status) → ViewOf m k r → StatusMove m (number k r) t → Everywhere (withEntry m (number k r) (inStatus t (entry m (number k r))))
+  states k r t o (isWaiting e) =
+      with-status k r 2 (inStatus Waiting (entry m (number k r))) (o .keyIn) (o .roleIn) (omega (arith, ap statusNumber e)) refl (omega arith) (omega arith) refl refl
+  states k r t o (isExpired e) =
+      with-status k r 1 (inStatus ToSend (entry m (number k r))) (o .keyIn) (o .roleIn) (omega (arith, ap statusNumber e)) refl (omega arith) (omega arith) refl refl
+  states k r t o (isDone p hs e d c) =
+      let hk = o .keyIn in
+      let hr = o .roleIn in
+      let hp : p < 8 = omega (arith, stores8 m u) in
+      let f = ap statusNumber e in
+      let l = here m z fits inv k r p hk hr hp .wrote c in
+      by-entry m z fits inv k r hk hr (inStatus Done (entry m (number k r)))
+      (λ q hq x y. Local.stated-me x y 3 (omega arith) (omega arith) (omega arith) (λ h i. subst (λ (s : ℕ). viewlink m s (number k (1 - r)) ≡ suc (view m (number k r) .store)) (sym d ∙ i) l))
+      (λ q hq x y. Local.stated-ot x y 3 (omega arith) (omega arith) (omega arith))
 
   -- 15, 16
-  pub goes-up-or-down : (p : ℕ) (b : Bool) → Everywhere (withUpAt m p b)
+  goes-up-or-down : (p : ℕ) (b : Bool) → Everywhere (withUpAt m p b)
   unfolding Everywhere
   goes-up-or-down p b k r q hk hr hq =
       rw (turned-link (m .shelves) p b q (number k r), turned-link (m .shelves) p b q (number k (1 - r))) (inv k r q hk hr hq)
 
-  -- 12: the entry is done, or the uack only goes
-  pub takes-uack : (p k r : ℕ) → takeUackNo m p k r ≡ 0 → Everywhere (uackTaken m p k r)
-  unfolding uackTaken
-  takes-uack p k r e =
-      let t = taken-when m (TakeUack p k r) e in
-      let hp : p < 8 = omega (arith, stores8 m u, t .place .storeIn) in
-      let hk = t .place .keyIn in
-      let hr = t .place .roleIn in
-      with-uacks (withEntry m (number k r) (finishedEntry p (entry m (number k r)))) (sized-entry m (number k r) (finishedEntry p (entry m (number k r))) z) fits
-      (go (eqb (statusNumber (entry m (number k r) .status)) 2 && eqb (entry m (number k r) .destination) p) refl hp hk hr (t .copy)) k r p hk hr hp (u .storeAt p hp .long) _ (λ h. omega (arith, t .copy))
-    where
-      with : Entry → Type 0
-      with x = Everywhere (withEntry m (number k r) x)
-
-      go : (b : Bool) → (eqb (statusNumber (entry m (number k r) .status)) 2 && eqb (entry m (number k r) .destination) p) ≡ b → p < 8 → k < m .made → r < 2 → 0 < uackCopies m p (number k r)
-          → Everywhere (withEntry m (number k r) (finishedEntry p (entry m (number k r))))
-      go true c hp hk hr n =
-          let a = and-true (eqb (statusNumber (entry m (number k r) .status)) 2) (eqb (entry m (number k r) .destination) p) c in
-          let f = eqb-true (statusNumber (entry m (number k r) .status)) 2 (a .0) in
-          let g = eqb-true (entry m (number k r) .destination) p (a .1) in
-          let l = here m z fits inv k r p hk hr hp .wrote n in
-          subst with (sym (ap (λ (b : Bool). pick b (inStatus Done (entry m (number k r))) (entry m (number k r))) c))
-          (by-entry m z fits inv k r hk hr (inStatus Done (entry m (number k r)))
-          (λ q hq x y. Local.stated-me x y 3 (omega arith) (omega arith) (omega arith) (λ h d. subst (λ (s : ℕ). viewlink m s (number k (1 - r)) ≡ suc (view m (number k r) .store)) (sym g ∙ d) l))
-          (λ q hq x y. Local.stated-ot x y 3 (omega arith) (omega arith) (omega arith)))
-      go false c hp hk hr n =
-          subst with (sym (ap (λ (b : Bool). pick b (inStatus Done (entry m (number k r))) (entry m (number k r))) c))
-          (by-entry m z fits inv k r hk hr (entry m (number k r)) (λ q hq x y. x) (λ q hq x y. y))
-
-  -- 11
-  pub takes-update : (p k r : ℕ) → takeUpdateNo m p k r ≡ 0 → Everywhere (updateTaken m p k r)
-  unfolding updateTaken
-  takes-update p k r e =
-      let t = taken-when m (TakeUpdate p k r) e in
-      let hp : p < 8 = omega (arith, stores8 m u, t .place .storeIn) in
-      let hk = t .place .keyIn in
-      let hr = t .place .roleIn in
-      let l = entry m (number k r) .own + 1 in
-      let n = updateCopies m p (number k r) - 1 in
-      let y = more (uackCopies m p (number k r)) in
-      let a = here m z fits inv k r p hk hr hp in
-      let b = there m z fits inv k r p hk hr hp in
-      let s = a .updateEntry (t .copy) in
-      touched m (updateTaken m p k r) k r _ _ _ _ hr (update-touch m z k r (omega (arith, fits)) hr p hp (u .storeAt p hp .long) l n y) (λ j h x. h) fits inv
-      (at-stores (λ q x x′. Good (job m (number k r)) x (job m (number k (1 - r))) x′ (message m k .own) q) p _ _ (λ q. cell m q (number k r)) (λ q. cell m q (number k (1 - r))) (Local.updated-me a b s n y) (λ q hq. here m z fits inv k r q hk hr hq))
-      (at-stores (λ q x x′. Good (job m (number k (1 - r))) x′ (job m (number k r)) x (message m k .own) q) p _ _ (λ q. cell m q (number k r)) (λ q. cell m q (number k (1 - r))) (Local.updated-ot a b s n y) (λ q hq. there m z fits inv k r q hk hr hq))
-
   -- 9
-  pub takes-repair : (k r : ℕ) → takeRepairNo m k r ≡ 0 → Everywhere (repairTaken m k r)
+  takes-repair : (k r : ℕ) → TakeRepairTaken m k r → Everywhere (repairTaken m k r)
   unfolding repairTaken
-  takes-repair k r e =
-      let t = taken-when m (TakeRepair k r) e in
+  takes-repair k r t =
       go (entered (entry m (number k (1 - r)))) refl (t .view .keyIn) (t .view .roleIn) (rw (t .flying) (omega arith))
     where
       v : ℕ
@@ -390,10 +333,9 @@ module _ (m : State) (u : Unbroken m) (inv : Everywhere m) where
           (λ p hp. Local.entered-ot (here m z fits inv k r p hk hr hp) (there m z fits inv k r p hk hr hp) f g))
 
   -- 2
-  pub receives : Homes m → (k : ℕ) → receiveNo m k ≡ 0 → Everywhere (receivedOf m k)
+  receives : Homes m → (k : ℕ) → ReceiveTaken m k → Everywhere (receivedOf m k)
   unfolding receivedOf Homes
-  receives homes k e =
-      let t = taken-when m (Receive k) e in
+  receives homes k t =
       let hk = t .keyIn in
       let w = receivedView m k in
       let n = receivedOf m k in
@@ -435,10 +377,9 @@ module _ (m : State) (u : Unbroken m) (inv : Everywhere m) where
         let g : uackCopies m p v ≡ 0 = Local.none (λ e. omega (arith, u .uackAt p v hp h .atView e, no-status)) in
         rw (a, b, c, d, g)
 
-  pub sends : (from to own word causes : ℕ) → sendNo m from to own causes ≡ 0 → Everywhere (sent m from to own word causes)
+  sends : (from to own word causes : ℕ) → SendTaken m from to own causes → Everywhere (sent m from to own word causes)
   unfolding sent
-  sends from to own word causes e =
-      let t = taken-when m (Send from to own word causes) e in
+  sends from to own word causes t =
       let room = t .room in
       let k = m .made in
       let a = number k 0 in
@@ -462,3 +403,60 @@ module _ (m : State) (u : Unbroken m) (inv : Everywhere m) where
       (λ j h f. omega arith) (omega arith) inv
       (λ p hp. rw (getD-set-same (m .messages) k (record { flying = true; own = own; word = word }) noMessage (omega (arith, z .messages))) (Local.sent-me own (home m to) p))
       (λ p hp. rw (getD-set-same (m .messages) k (record { flying = true; own = own; word = word }) noMessage (omega (arith, z .messages))) (Local.sent-ot own (home m to) p))
+
+  pub change-everywhere : (n : State) → Homes m → Change m n → Everywhere n
+  change-everywhere n homes (onUp p b h) = goes-up-or-down p b
+  change-everywhere n homes (onSend from to own word causes t) = sends from to own word causes t
+  change-everywhere n homes (onReceive k t) = receives homes k t
+  change-everywhere n homes (onHead a w h) = head-goes a w h
+  change-everywhere n homes (onSettle a h) = post-checks a h
+  change-everywhere n homes (onFlight records acks updates uacks f) = flies records acks updates uacks f
+  change-everywhere n homes (onHeld p k r o c) = holds p k r o
+  change-everywhere n homes (onViewlink p k v link hs hk l) = links p k v link hs hk l
+  change-everywhere n homes (onStatus k r t o c) = states k r t o c
+  change-everywhere n homes (onRepair k r t) = takes-repair k r t
+
+-- .. and the sender's viewlink the receiver's home: no change takes it away, and a send writes it
+module _ (m n : State) (u : Unbroken m) (on : Onward m n) (homes : Homes m) where
+  old-home : (k : ℕ) → k < m .made → view n (number k 0) .viewlink ≡ home n (view n (number k 1) .actor)
+  unfolding Homes
+  old-home k hk =
+      let a = on .views (number k 0) (omega arith) in
+      let b = on .views (number k 1) (omega arith) in
+      a .viewlink (sender-made m u k hk) ∙ (homes k hk ∙ sym (ap (λ (l : List ℕ). getD l (view n (number k 1) .actor) 0) (on .homes) ∙ ap (home m) (b .actor)))
+
+  same-homes : n .made ≡ m .made → Homes n
+  unfolding Homes
+  same-homes e k hk = old-home k (omega arith)
+
+sent-homes : (m : State) (u : Unbroken m) (from to own word causes : ℕ) → SendTaken m from to own causes → Homes m → Homes (sent m from to own word causes)
+unfolding Homes sent
+sent-homes m u from to own word causes t homes k hk = go (ℕ-discrete k (m .made))
+  where
+    n : State
+    n = sent m from to own word causes
+
+    go : Dec (k ≡ m .made) → view (sent m from to own word causes) (number k 0) .viewlink ≡ home (sent m from to own word causes) (view (sent m from to own word causes) (number k 1) .actor)
+    go (yes e) =
+        let x = sends-new-key m from to own word causes (whole m u) t in
+        rw (e, ap (λ (w : View). w .viewlink) (x .sender), ap (λ (w : View). w .actor) (x .receiver))
+    go (no f) = old-home m n u (change-onward m n u (onSend from to own word causes t)) homes k (omega arith)
+
+pub change-homes : (m n : State) → Unbroken m → Homes m → Change m n → Homes n
+unfolding receivedOf postChecked repairTaken
+change-homes m n u homes (onUp p b h) = same-homes m n u (change-onward m n u (onUp p b h)) homes refl
+change-homes m n u homes (onSend from to own word causes t) = sent-homes m u from to own word causes t homes
+change-homes m n u homes (onReceive k t) = same-homes m n u (change-onward m n u (onReceive k t)) homes refl
+change-homes m n u homes (onHead a w h) = same-homes m n u (change-onward m n u (onHead a w h)) homes refl
+change-homes m n u homes (onSettle a h) = same-homes m n u (change-onward m n u (onSettle a h)) homes refl
+change-homes m n u homes (onFlight records acks updates uacks f) = same-homes m n u (change-onward m n u (onFlight records acks updates uacks f)) homes refl
+change-homes m n u homes (onHeld p k r o c) = same-homes m n u (change-onward m n u (onHeld p k r o c)) homes refl
+change-homes m n u homes (onViewlink p k v link hs hk l) = same-homes m n u (change-onward m n u (onViewlink p k v link hs hk l)) homes refl
+change-homes m n u homes (onStatus k r t o c) = same-homes m n u (change-onward m n u (onStatus k r t o c)) homes refl
+change-homes m n u homes (onRepair k r c) = same-homes m n u (change-onward m n u (onRepair k r c)) homes refl
+
+-- so every step keeps both
+pub taken-keeps : (m : State) (s : Step) → brokenOf m ≡ false → numberOf m s ≡ 0 → Everywhere m × Homes m → Everywhere (afterOf m s) × Homes (afterOf m s)
+taken-keeps =
+    taken-related (λ m n. Everywhere m × Homes m → Everywhere n × Homes n) (λ m x. x) (λ m n o f g x. g (f x))
+    (λ m n u c x. (change-everywhere m u (x .0) n (x .1) c, change-homes m n u (x .1) c))

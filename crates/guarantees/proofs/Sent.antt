@@ -13,7 +13,6 @@ use lib.ListN.{length, getD}
 use lib.Seq.{getD-set-same, getD-set-other}
 use Rattle.protocol.specs.Words.{pick}
 use Rattle.protocol.specs.Slots.{number, view, message, noView, noMessage}
-use Rattle.protocol.specs.Writes.{withRecordCopies, withAckCopies, withUpdateCopies, withUackCopies}
 use Rattle.protocol.specs.Setup.{freshWith}
 use Rattle.unbroken.specs.Unbroken.{Unbroken}
 use Rattle.protocol.specs.declared.State.{State}
@@ -25,32 +24,23 @@ use Rattle.unbroken.proofs.Laws.{unbroken}
 use Rattle.unbroken.proofs.Laws.Room.{sender-made}
 use Rattle.protocol.specs.Send.{sent}
 use Rattle.protocol.specs.Receive.{receivedOf, receivedView}
-use Rattle.protocol.specs.PreCheck.{preChecked}
-use Rattle.protocol.specs.SendRecord.{recordSent}
-use Rattle.protocol.specs.Timeout.{timedOut}
-use Rattle.protocol.specs.TakeRecord.{recordTaken}
-use Rattle.protocol.specs.TakeAck.{ackTaken}
 use Rattle.protocol.specs.PostCheck.{postChecked}
 use Rattle.protocol.specs.TakeRepair.{repairTaken}
-use Rattle.protocol.specs.SendUpdate.{updateSent}
-use Rattle.protocol.specs.TakeUpdate.{updateTaken}
-use Rattle.protocol.specs.TakeUack.{uackTaken}
-use Rattle.protocol.specs.Expire.{expired}
-use Rattle.protocol.specs.Lose.{lost, copies}
-use Rattle.protocol.specs.Crash.{crashed}
-use Rattle.protocol.specs.Restart.{restarted}
 use Rattle.protocol.specs.Step.{numberOf, afterOf, stepOf}
 use Rattle.protocol.specs.declared.Step.{Step}
-use Rattle.protocol.specs.declared.Step.the-variants.{Send, Receive, PreCheck, SendRecord, Timeout, TakeRecord, TakeAck, PostCheck, TakeRepair, SendUpdate, TakeUpdate, TakeUack, Expire, Lose, Crash, Restart}
+use Rattle.protocol.specs.declared.Step.the-variants.{Send}
 use Rattle.protocol.specs.Run.{ran, freshOf}
 use Rattle.keeps.specs.Laws.{madeBy}
-use Rattle.keeps.specs.Onward.{ViewOn}
+use Rattle.keeps.specs.Onward.{ViewOn, Onward}
+use Rattle.keeps.specs.Change.{Change, onUp, onSend, onReceive, onHead, onSettle, onFlight, onHeld, onViewlink, onStatus, onRepair}
+use Rattle.keeps.proofs.Changes.{step-related}
 use Rattle.keeps.proofs.Conditions.{taken-when, when-taken}
 use Rattle.keeps.proofs.Laws.{taken-gives, refused-gives, made-counts}
-use Rattle.keeps.proofs.Onward.{step-onward}
+use Rattle.keeps.proofs.Onward.{still, after as after-both, change-onward, step-onward}
 use Rattle.guarantees.specs.Acknowledged.{Legal, after}
 use Rattle.guarantees.specs.Sent.{Said, nothingSaid, saidBy, sends, sentAs}
-use Rattle.guarantees.proofs.Which.{Kind, a-send, another, kinds}
+use Rattle.keeps.proofs.Which.{Kind, a-send, another, kinds}
+use Rattle.guarantees.proofs.Local.{none}
 use Rattle.guarantees.proofs.Turns.{Turn, stays, received, checked, sends as sends-on, moved, acked, settled, turns}
 use Rattle.guarantees.proofs.Reached.{Reached, new-sender, new-receiver}
 use Rattle.guarantees.proofs.Steps.{by-step, step-reached}
@@ -67,56 +57,54 @@ pub record Told (m : State) (k : ℕ) (x : Said) : Type 0 where
   pub flying : view m (number k 1) .phase ≡ 0 → message m k .word ≡ x .word
   pub heard : 1 ≤ view m (number k 1) .phase → view m (number k 1) .word ≡ x .word
 
--- a step leaves the message of an interaction that is there, or receives it
-data Post (m : State) (s : Step) (k : ℕ) : Type 0 where
-  left : message (afterOf m s) k ≡ message m k → Post m s k
-  read : s ≡ Receive k → Post m s k
+-- the message of an interaction that is there stays, while its receipt is awaited: by cases on a change
+record Posted (m n : State) : Type 0 where
+  onward : Onward m n
+  left : (k : ℕ) → k < m .made → view n (number k 1) .phase ≡ 0 → message n k ≡ message m k
 
-post : (m : State) (k : ℕ) → k < m .made → (s : Step) → Post m s k
-unfolding sent receivedOf preChecked recordSent timedOut recordTaken ackTaken postChecked repairTaken updateSent updateTaken uackTaken expired lost crashed restarted
-post m k h (Send from to own word causes) = left (getD-set-other (m .messages) (m .made) k (record { flying = true; own = own; word = word }) noMessage (λ e. let z : ⊥ = omega arith in z))
-post m k h (Receive i) = go (ℕ-discrete k i)
+posted : (m n : State) → Unbroken m → Change m n → (k : ℕ) → k < m .made → view n (number k 1) .phase ≡ 0 → message n k ≡ message m k
+unfolding sent receivedOf postChecked repairTaken
+posted m n u (onUp p b h) k hk z = refl
+posted m n u (onSend from to own word causes t) k hk z =
+    getD-set-other (m .messages) (m .made) k (record { flying = true; own = own; word = word }) noMessage (λ e. let y : ⊥ = omega arith in y)
+posted m n u (onReceive i t) k hk z = go (ℕ-discrete k i)
   where
-    go : Dec (k ≡ i) → Post m (Receive i) k
-    go (yes e) = read (ap Receive (sym e))
-    go (no n) = left (getD-set-other (m .messages) i k noMessage noMessage n)
-post m k h (PreCheck a) = left refl
-post m k h (SendRecord a) = left refl
-post m k h (Timeout a p) = left refl
-post m k h (TakeRecord p i r) = left refl
-post m k h (TakeAck p i r) = left refl
-post m k h (PostCheck a) = left refl
-post m k h (TakeRepair i r) = left refl
-post m k h (SendUpdate i r) = left refl
-post m k h (TakeUpdate p i r) = left refl
-post m k h (TakeUack p i r) = left refl
-post m k h (Expire i r) = left refl
-post m k h (Lose what p i r) = left (go (copies m what p (number i r) - 1) (eqb what 0) (eqb what 1) (eqb what 2))
-  where
-    go : (n : ℕ) (x y z : Bool) → message (pick x (withRecordCopies m p (number i r) n) (pick y (withAckCopies m p (number i r) n) (pick z (withUpdateCopies m p (number i r) n) (withUackCopies m p (number i r) n)))) k ≡ message m k
-    go n true y z = refl
-    go n false true z = refl
-    go n false false true = refl
-    go n false false false = refl
-post m k h (Crash p) = left refl
-post m k h (Restart p) = left refl
+    go : Dec (k ≡ i) → message (receivedOf m i) k ≡ message m k
+    go (yes e) =
+        let now = getD-set-same (m .views) (number i 1) (receivedView m i) noView (omega (arith, u .made16, u .sized .views, t .keyIn)) in
+        absurd (let y : _≡_ {A = ℕ} 1 0 = sym (ap (λ (w : View). w .phase) now) ∙ (ap (λ (x : ℕ). view (receivedOf m i) (number x 1) .phase) (sym e) ∙ z) in omega arith)
+    go (no f) = getD-set-other (m .messages) i k noMessage noMessage f
+posted m n u (onHead a w h) k hk z = refl
+posted m n u (onSettle a h) k hk z = refl
+posted m n u (onFlight records acks updates uacks f) k hk z = refl
+posted m n u (onHeld p i r o c) k hk z = refl
+posted m n u (onViewlink p i v link hs hi l) k hk z = refl
+posted m n u (onStatus i r t o c) k hk z = refl
+posted m n u (onRepair i r c) k hk z = refl
+
+awaited : (m n : State) → Onward m n → (k : ℕ) → k < m .made → view n (number k 1) .phase ≡ 0 → view m (number k 1) .phase ≡ 0
+awaited m n on k hk z = none (λ h. omega (arith, on .views (number k 1) (omega arith) .phase 1 (λ e. omega arith) h))
+
+stays-posted : (m : State) (s : Step) → Posted m (stepOf m s .state)
+stays-posted =
+    step-related Posted (λ m. record { onward = still m; left = λ k hk z. refl })
+    (λ m n o a b. record {
+      onward = after-both m n o (a .onward) (b .onward);
+      left = λ k hk z.
+          let more = a .onward .made in
+          let h : k < n .made = omega arith in
+          b .left k h z ∙ a .left k hk (awaited n o (b .onward) k h z);
+    })
+    (λ m n u c. record { onward = change-onward m n u c; left = posted m n u c })
 
 module _ (m : State) (c : Reached m) where
   u : Unbroken m
   u = unbroken m (c .fine)
 
   module _ (s : Step) (k : ℕ) (h : k < m .made) where
-    now : view (receivedOf m k) (number k 1) ≡ receivedView m k
-    unfolding receivedOf
-    now = getD-set-same (m .views) (number k 1) (receivedView m k) noView (omega (arith, u .made16, u .sized .views))
-
     -- the message stays while the receipt is awaited
     unread : view (stepOf m s .state) (number k 1) .phase ≡ 0 → message (stepOf m s .state) k ≡ message m k
-    unread = by-step (λ n. view n (number k 1) .phase ≡ 0 → message n k ≡ message m k) m s (c .fine) (λ e. refl) (λ e. go (post m k h s))
-      where
-        go : Post m s k → view (afterOf m s) (number k 1) .phase ≡ 0 → message (afterOf m s) k ≡ message m k
-        go (left e) z = e
-        go (read e) z = absurd (let y : _≡_ {A = ℕ} 1 0 = sym (ap (λ (w : View). w .phase) now) ∙ subst (λ (x : Step). view (afterOf m x) (number k 1) .phase ≡ 0) e z in let q : ⊥ = omega arith in q)
+    unread = stays-posted m s .left k h
 
     -- when it is received, its word is the record's
     hears : view m (number k 1) .phase ≡ 0 → 1 ≤ view (stepOf m s .state) (number k 1) .phase → view (stepOf m s .state) (number k 1) .word ≡ message m k .word
@@ -189,8 +177,8 @@ module _ (m : State) (c : Reached m) where
       let n : Said = record { from = from; to = to; own = own; word = word; causes = causes } in
       says n (ap (λ (a : Outcome). a .state .made) y ∙ made-counts m s ∙ ap (madeBy m) x) (rw (eq-eqb (stepOf m s .answer) 0 z, x))
       (subst (λ (a : Outcome). Told (a .state) (m .made) n) (sym y) (subst (λ (i : Step). Told (afterOf m i) (m .made) n) (sym x) (begins from to own word causes (rw x at e))))
-  taken s e (another f) =
-      nothing (ap (λ (a : Outcome). a .state .made) (taken-gives m s (c .fine) (taken-when m s e)) ∙ made-counts m s ∙ rw f) (none-said s (rw f) (eqb (stepOf m s .answer) 0))
+  taken s e (another o) =
+      nothing (ap (λ (a : Outcome). a .state .made) (taken-gives m s (c .fine) (taken-when m s e)) ∙ o .made m) (none-said s (rw (o .other)) (eqb (stepOf m s .answer) 0))
 
   sending : (s : Step) → Sending m s
   sending s = go (ℕ-discrete (numberOf m s) 0)

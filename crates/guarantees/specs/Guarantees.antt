@@ -199,10 +199,10 @@ Books = (book : List ℕ) (room : ℕ) → runOf book room .answer ≡ 0 → Boo
 --   broken: legal, fresh, empty, is_broken
 --   rules: look_back, Slots::rule (the two that `machine` is made of; the second has no equation, docs/ say why)
 --   machine: Machine::empty, setup, broken, step; its joints step_unbroken and steps_unbroken, for machines that are not broken
---   drain: drain. walk: walk. runs: run, with its buffer
+--   drain: drain. walk: walk. runs: run, with its buffer, and step_at
 --   listing: refused, listing. provn: write. pair_rule: check, is_rule
 --   tautlichen: tautlichen_run, _list, _drain, _walk, _lineage, _pair, whose lent values are told one by one in its specs/Only.antt
---   bench: bench_run, bench_broken, bench_walk, bench_drain, bench_step, bench_step_unbroken
+--   bench: bench_broken, bench_walk, bench_drain, bench_step, bench_step_unbroken
 abbrev pub Determined : {A : Type 0} → A → Type 0
 Determined {A} d = (x y : A) → x ≡ d → y ≡ d → x ≡ y
 

@@ -2,7 +2,7 @@
 use Prim.Native.Nat.{ℕ, _+_, _≤_}
 use mathlib.Core.Path.{_≡_, refl, sym, ap, subst, _∙_}
 use mathlib.Core.Logic.{_≢_}
-use mathlib.Core.Bool.{true, false, true≢false}
+use mathlib.Core.Bool.{Bool, true, false, true≢false}
 use mathlib.Core.List.{[], _∷_}
 use native.Mathlib.Omega.{arith}
 use lib.ListN.{getD, set, length-set}
@@ -24,29 +24,19 @@ use Rattle.unbroken.proofs.Laws.Every.{table-at}
 use Rattle.unbroken.proofs.Laws.Says.{zero-splits}
 use Rattle.protocol.specs.Send.{homeLink, sentView, awaitedView, sent}
 use Rattle.protocol.specs.Receive.{receivedView, receivedOf}
-use Rattle.protocol.specs.PreCheck.{preChecked}
-use Rattle.protocol.specs.SendRecord.{recordSent}
-use Rattle.protocol.specs.Timeout.{timedOut}
 use Rattle.protocol.specs.TakeRecord.{writtenContents, writtenViewlink, recordTaken}
-use Rattle.protocol.specs.TakeAck.{ackTaken}
-use Rattle.protocol.specs.PostCheck.{postChecked}
-use Rattle.protocol.specs.TakeRepair.{repairTaken}
-use Rattle.protocol.specs.SendUpdate.{updateSent}
-use Rattle.protocol.specs.TakeUpdate.{updateTaken}
-use Rattle.protocol.specs.TakeUack.{uackTaken}
-use Rattle.protocol.specs.Expire.{expired}
-use Rattle.protocol.specs.Lose.{lost}
 use Rattle.protocol.specs.Crash.{crashNo, crashed}
-use Rattle.protocol.specs.Restart.{restartNo, restarted}
+use Rattle.protocol.specs.Restart.{restartNo}
 use Rattle.protocol.specs.Step.{numberOf, afterOf, ruleOf, stepOf}
 use Rattle.protocol.specs.declared.Step.{Step}
-use Rattle.protocol.specs.declared.Step.the-variants.{Send, Receive, PreCheck, SendRecord, Timeout, TakeRecord, TakeAck, PostCheck, TakeRepair, SendUpdate, TakeUpdate, TakeUack, Expire, Lose, Crash, Restart}
+use Rattle.protocol.specs.declared.Step.the-variants.{TakeRecord, Crash, Restart}
 use Rattle.keeps.specs.Laws.{TakenExactly, TakenGives, RefusedGives, BrokenGives, TakenBy, AnswerZero, JointSame, MadeCounts, SendsNewKey, SendWritesLinks}
-use Rattle.keeps.specs.Laws.{ReceiveWritesLink, StoreWritesLinks, OneResult, marked, Program, RefuserOut, ConstantOut, PretenderOut, ResultsDiffer}
+use Rattle.keeps.specs.Laws.{ReceiveWritesLink, StoreWritesLinks, OneResult, madeBy, marked, Program, RefuserOut, ConstantOut, PretenderOut, ResultsDiffer}
 use Rattle.keeps.proofs.Index.{place-same}
 use Rattle.keeps.proofs.Conditions.{taken-when, when-taken}
 use Rattle.keeps.proofs.Joins.{home-in}
 use Rattle.keeps.proofs.Cases.{pick-case, step-case}
+use Rattle.keeps.proofs.Which.{Kind, a-send, another, kinds}
 use Rattle.keeps.proofs.Stores.{store-8, key-16, number-32, written-held}
 use Rattle.keeps.proofs.Keeps.{every-kept}
 
@@ -81,30 +71,13 @@ answer-zero m s =
     (λ e z y. let c = taken-when m s z in record { unbroken = e; condition = c; gives = taken-gives m s e c }) (λ e n z. absurd (n z))
 
 -- the number of interactions
-lost-made : (m : State) (what p k r : ℕ) → lost m what p k r .made ≡ m .made
-unfolding lost
-lost-made m what p k r =
-    pick-case (λ (x : State). x .made ≡ m .made) (eqb what 0) _ _ (λ e. refl)
-    (λ e. pick-case (λ (x : State). x .made ≡ m .made) (eqb what 1) _ _ (λ f. refl) (λ f. pick-case (λ (x : State). x .made ≡ m .made) (eqb what 2) _ _ (λ g. refl) (λ g. refl)))
-
 pub made-counts : MadeCounts
-unfolding sent receivedOf preChecked recordSent timedOut recordTaken ackTaken postChecked repairTaken updateSent updateTaken uackTaken expired crashed restarted
-made-counts m (Send from to own word causes) = refl
-made-counts m (Receive k) = refl
-made-counts m (PreCheck a) = refl
-made-counts m (SendRecord a) = refl
-made-counts m (Timeout a p) = refl
-made-counts m (TakeRecord p k r) = refl
-made-counts m (TakeAck p k r) = refl
-made-counts m (PostCheck a) = refl
-made-counts m (TakeRepair k r) = refl
-made-counts m (SendUpdate k r) = refl
-made-counts m (TakeUpdate p k r) = refl
-made-counts m (TakeUack p k r) = refl
-made-counts m (Expire k r) = refl
-made-counts m (Lose what p k r) = lost-made m what p k r
-made-counts m (Crash p) = refl
-made-counts m (Restart p) = refl
+unfolding sent
+made-counts m s = go (kinds s)
+  where
+    go : Kind s → afterOf m s .made ≡ madeBy m s
+    go (a-send from to own word causes e) = subst (λ (x : Step). afterOf m x .made ≡ madeBy m x) (sym e) refl
+    go (another o) = o .made m ∙ sym (ap (λ (b : Bool). pick b (m .made + 1) (m .made)) (o .other))
 
 pub sends-new-key : SendsNewKey
 unfolding sent

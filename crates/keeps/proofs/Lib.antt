@@ -1,5 +1,6 @@
 pub mod Ruled
 pub mod Cases
+pub mod Which
 pub mod Conditions
 pub mod Index
 pub mod Writes

@@ -76,7 +76,7 @@ view-after w x y a b =
       settled = λ e. let q = a .settled e in b .settled (ap (λ (z : View). z .phase) q ∙ e) ∙ q;
     }
 
-still : (m : State) → Onward m m
+pub still : (m : State) → Onward m m
 still m =
     record {
       stores = refl;
@@ -91,7 +91,7 @@ still m =
       entered = λ v hv h. h;
     }
 
-after : (m n o : State) → Onward m n → Onward n o → Onward m o
+pub after : (m n o : State) → Onward m n → Onward n o → Onward m o
 after m n o a b =
     let first = a .made in
     let second = b .made in

@@ -1,16 +1,21 @@
 -- The slots of the actor, the view and the store that are found are those that the step is about: what stands there
 -- has the bounds that its rule needs, and a number that lies outside refuses it. Assumes nothing.
-use Prim.Native.Nat.{ℕ, _<_, _/_, _%_}
-use mathlib.Core.Path.{_≡_, _∙_, ap, sym}
-use mathlib.Core.Bool.{Bool, true, false}
+use Prim.Native.Nat.{ℕ, zero, suc, _≤_, _<_, _/_, _%_}
+use mathlib.Core.Path.{_≡_, refl, _∙_, ap, sym, subst}
+use mathlib.Core.Bool.{Bool, true, false, _||_}
 use native.Mathlib.Omega.{arith}
+use lib.Dec.{leb·zero}
+use borrow.Author.Tests.{lt-leb}
 use Rattle.protocol.specs.Words.{pick}
+use Rattle.protocol.specs.Broken.{brokenOf}
 use Rattle.unbroken.specs.Bounds.{Bounds}
+use Rattle.unbroken.specs.Unbroken.{SetupKind}
+use Rattle.unbroken.proofs.Laws.{unbroken}
 use Rattle.protocol.specs.Setup.{answered, emptyMachine}
 use Rattle.protocol.specs.Writes.{withMade, withViews}
 use Rattle.protocol.specs.Slots.{number, queue, view, entry}
 use Rattle.protocol.specs.declared.State.{State}
-use Rattle.rules.specs.About.{aboutOf, nextView, storeOf, viewAbout, actorAbout, storeAbout, outsideOf}
+use Rattle.rules.specs.About.{aboutOf, nextView, storeOf, viewAbout, actorAbout, storeAbout, outsideAbout, outsideOf}
 use Rattle.protocol.specs.Rule.{head}
 use Rattle.rules.specs.Slots.{Stands, Fits, noPast, pastOf, pastAbout, slotsAt, withSlotsAt, slotsOf, withSlots, outcome}
 use Rattle.protocol.specs.Step.{ruleOf}
@@ -38,7 +43,70 @@ use Rattle.protocol.specs.declared.Step.{Step}
 use Rattle.protocol.specs.declared.Step.the-variants.{Send, Receive, PreCheck, SendRecord, Timeout, TakeRecord, TakeAck, PostCheck, TakeRepair, SendUpdate, TakeUpdate, TakeUack, Expire, Lose, Crash, Restart}
 use Rattle.rules.proofs.Inside.{key-low}
 
-pub outside-refuses : (m : State) (s : Step) → outsideOf (m .stores) (m .actors) (m .made) s ≡ true → ruleOf m s ≡ answered 2 m
+none : {n : ℕ} → (1 ≤ n → ⊥) → n ≡ 0
+none {n = zero} h = refl
+none {n = suc n} h = absurd (h (omega arith))
+
+or-false : (b : Bool) → (b || false) ≡ b
+or-false true = refl
+or-false false = refl
+
+or-true : (b : Bool) → (b || true) ≡ true
+or-true true = refl
+or-true false = refl
+
+-- what a step doesn't name is 0, and that is in every machine that has stores and actors
+some-same : (stores actors made : ℕ) → 1 ≤ stores → 1 ≤ actors → (s : Step) → outsideAbout stores actors made (aboutOf s) ≡ outsideOf stores actors made s
+some-same stores actors made hp ha (Send from to own word causes) = simp or-false
+some-same stores actors made hp ha (Receive k) = simp (lt-leb stores 0 hp, lt-leb actors 0 ha, or-false)
+some-same stores actors made hp ha (PreCheck a) = simp (lt-leb stores 0 hp, lt-leb actors 0 ha, or-false)
+some-same stores actors made hp ha (SendRecord a) = simp (lt-leb stores 0 hp, lt-leb actors 0 ha, or-false)
+some-same stores actors made hp ha (Timeout a p) = simp (lt-leb actors 0 ha, or-false)
+some-same stores actors made hp ha (TakeRecord p k r) = simp (lt-leb actors 0 ha)
+some-same stores actors made hp ha (TakeAck p k r) = simp (lt-leb actors 0 ha)
+some-same stores actors made hp ha (PostCheck a) = simp (lt-leb stores 0 hp, lt-leb actors 0 ha, or-false)
+some-same stores actors made hp ha (TakeRepair k r) = simp (lt-leb stores 0 hp, lt-leb actors 0 ha)
+some-same stores actors made hp ha (SendUpdate k r) = simp (lt-leb stores 0 hp, lt-leb actors 0 ha)
+some-same stores actors made hp ha (TakeUpdate p k r) = simp (lt-leb actors 0 ha)
+some-same stores actors made hp ha (TakeUack p k r) = simp (lt-leb actors 0 ha)
+some-same stores actors made hp ha (Expire k r) = simp (lt-leb stores 0 hp, lt-leb actors 0 ha)
+some-same stores actors made hp ha (Lose what p k r) = simp (lt-leb actors 0 ha, or-false)
+some-same stores actors made hp ha (Crash p) = simp (lt-leb actors 0 ha, or-false)
+some-same stores actors made hp ha (Restart p) = simp (lt-leb actors 0 ha, or-false)
+
+-- in the empty machine is nothing that a step could name
+none-out : (s : Step) → outsideOf 0 0 0 s ≡ true
+none-out (Send from to own word causes) = simp leb·zero
+none-out (Receive k) = simp leb·zero
+none-out (PreCheck a) = simp leb·zero
+none-out (SendRecord a) = simp leb·zero
+none-out (Timeout a p) = simp leb·zero
+none-out (TakeRecord p k r) = simp leb·zero
+none-out (TakeAck p k r) = simp leb·zero
+none-out (PostCheck a) = simp leb·zero
+none-out (TakeRepair k r) = simp leb·zero
+none-out (SendUpdate k r) = simp leb·zero
+none-out (TakeUpdate p k r) = simp leb·zero
+none-out (TakeUack p k r) = simp leb·zero
+none-out (Expire k r) = simp leb·zero
+none-out (Lose what p k r) = simp (leb·zero, or-true)
+none-out (Crash p) = simp leb·zero
+none-out (Restart p) = simp leb·zero
+
+none-about : (b : About) → outsideAbout 0 0 0 b ≡ true
+none-about b = simp (leb·zero, or-true)
+
+-- so what a step is about lies outside exactly where what it names does
+pub same-outside : (m : State) → brokenOf m ≡ false → (s : Step) → outsideAbout (m .stores) (m .actors) (m .made) (aboutOf s) ≡ outsideOf (m .stores) (m .actors) (m .made) s
+same-outside m e s = go (unbroken m e .setup)
+  where
+    go : SetupKind (m .stores) (m .actors) (m .homes) (m .lists) → outsideAbout (m .stores) (m .actors) (m .made) (aboutOf s) ≡ outsideOf (m .stores) (m .actors) (m .made) s
+    go (SetupKind.some l) = some-same (m .stores) (m .actors) (m .made) (omega (arith, l .stores2)) (omega (arith, l .actors2)) s
+    go (SetupKind.none p a) =
+        let made : m .made ≡ 0 = none (λ h. omega (arith, unbroken m e .viewAt 0 (omega arith) .actorIn (omega arith))) in
+        rw (p, a, made) (none-about (aboutOf s) ∙ sym (none-out s))
+
+outside-refuses : (m : State) (s : Step) → outsideOf (m .stores) (m .actors) (m .made) s ≡ true → ruleOf m s ≡ answered 2 m
 unfolding ruleOf sendNo receiveNo preCheckNo sendRecordNo timeoutNo takeRecordNo takeAckNo postCheckNo takeRepairNo sendUpdateNo takeUpdateNo takeUackNo expireNo loseNo crashNo restartNo
 outside-refuses m (Send from to own word causes) e = simp e
 outside-refuses m (Receive k) e = simp e
@@ -57,6 +125,11 @@ outside-refuses m (Lose what p k r) e = simp e
 outside-refuses m (Crash p) e = simp e
 outside-refuses m (Restart p) e = simp e
 
+-- a step that is about what isn't there is refused
+pub about-refuses : (m : State) → brokenOf m ≡ false → (s : Step) (b : About) → b ≡ aboutOf s → outsideAbout (m .stores) (m .actors) (m .made) b ≡ true → ruleOf m s ≡ answered 2 m
+about-refuses m u s b about e =
+    outside-refuses m s (sym (same-outside m u s) ∙ (ap (outsideAbout (m .stores) (m .actors) (m .made)) (sym about) ∙ e))
+
 -- what a step looks back at, whether it does or not
 pub looked : (m : State) (b : About) (v : ℕ) {past : Past} (t : Bool) → b .back ≡ t
     → past ≡ pick t (pastOf (withMade (withViews emptyMachine (m .views)) (m .made)) (b .actor) (b .causes) (view m v)) noPast → past ≡ pastAbout m b v
@@ -73,9 +146,9 @@ pub record Found (m : State) (s : Step) (b : About) (a v p : ℕ) (past : Past) 
 
 -- a view that is not yet received has room in its actor's queue
 room-of : (m : State) → Bounds m → (v a : ℕ) → v % 2 ≡ 1 → v / 2 < m .made → a ≡ view m v .actor → view m v .phase ≡ 0 → queue m a .len < 16
-room-of m low v a odd made same zero =
+room-of m low v a odd made same unread =
     let n : number (v / 2) 1 ≡ v = omega (arith, odd) in
-    rw same (rw n at (low .receiveRoom (v / 2) made (rw n zero)))
+    rw same (rw n at (low .receiveRoom (v / 2) made (rw n unread)))
 
 module _ {m : State} {s : Step} {b : About} {a v p : ℕ} {past : Past} (f : Found m s b a v p past) where
   view-is : v ≡ viewAbout m (aboutOf s)
@@ -91,26 +164,31 @@ module _ {m : State} {s : Step} {b : About} {a v p : ℕ} {past : Past} (f : Fou
   past-is : past ≡ pastAbout m (aboutOf s) (viewAbout m (aboutOf s))
   past-is = f .looked ∙ (λ i. pastAbout m (f .about i) (view-is i))
 
-  pub stands : outsideOf (m .stores) (m .actors) (m .made) s ≡ false → Stands m s (slotsAt m b a v p past)
-  stands e = record { inside = e; slots = λ i. slotsAt m (f .about i) (actor-is i) (view-is i) (store-is i) (past-is i) }
+  pub stands : brokenOf m ≡ false → outsideAbout (m .stores) (m .actors) (m .made) b ≡ false → Stands m s (slotsAt m b a v p past)
+  stands u e =
+      record {
+        inside = sym (same-outside m u s) ∙ (ap (outsideAbout (m .stores) (m .actors) (m .made)) (sym (f .about)) ∙ e);
+        slots = λ i. slotsAt m (f .about i) (actor-is i) (view-is i) (store-is i) (past-is i);
+      }
 
   -- what the rule gives is what is written there
   pub written : (t : Tried) → ruleOf m s ≡ outcome m s t → answered (t .answer) (withSlotsAt m b a v p (t .slots)) ≡ ruleOf m s
   written t e = ap (answered (t .answer)) (λ i. withSlotsAt m (f .about i) (actor-is i) (view-is i) (store-is i) (t .slots)) ∙ sym e
 
-  pub fits : Bounds m → outsideOf (m .stores) (m .actors) (m .made) s ≡ false → v < 32 → a < 8 → p < 8 → Fits (aboutOf s) (slotsAt m b a v p past)
+  pub fits : Bounds m → outsideAbout (m .stores) (m .actors) (m .made) b ≡ false → v < 32 → a < 8 → p < 8 → Fits (aboutOf s) (slotsAt m b a v p past)
   fits low e v-low a-low p-low =
-      record {
+      subst (λ (c : About). Fits c (slotsAt m b a v p past)) (f .about)
+      (record {
         number32 = v-low;
         store8 = p-low;
         viewlink8 = low .viewlinkIn8 v v-low;
         own8 = low .ownIn8 v v-low;
         named = named-is;
         room = λ unnamed odd.
-            room-of m low v a odd (rw (← named-is unnamed) at (key-low m low s e unnamed (rw (← named-is unnamed) odd)))
-            (f .acted ∙ ap (λ (t : Bool). pick t (b .actor) (view m v .actor)) (ap (λ (c : About). c .acting) (f .about) ∙ unnamed));
+            room-of m low v a odd (rw (named-is unnamed) (key-low m low b e unnamed))
+            (f .acted ∙ ap (λ (t : Bool). pick t (b .actor) (view m v .actor)) unnamed);
         sendRoom = λ making made. low .sendRoom a a-low made;
-      }
+      })
     where
-      named-is : aboutOf s .acting ≡ false → v ≡ aboutOf s .view
-      named-is unnamed = view-is ∙ ap (λ (t : Bool). pick t (pick (aboutOf s .making) (nextView (m .made)) (head m (aboutOf s .actor))) (aboutOf s .view)) unnamed
+      named-is : b .acting ≡ false → v ≡ number (b .key) (b .role)
+      named-is unnamed = f .viewed ∙ ap (λ (t : Bool). pick t (pick (b .making) (nextView (m .made)) (head m (b .actor))) (number (b .key) (b .role))) unnamed

@@ -1,9 +1,10 @@
 // What a step is about: one actor, one view and one store. It names some of them; the machine tells the others.
 ghost use Prim.Native.Nat.{_<_};
-ghost use mathlib.Core.Bool.{_||_};
+ghost use mathlib.Core.Bool.{false, _||_};
 ghost use mathlib.Core.Path.{_≡_};
+ghost use Rattle.protocol.specs.Slots.{number};
 ghost use Rattle.protocol.specs.Words.{pick};
-ghost use Rattle.rules.specs.About.{aboutOf, lookingBack, nextView, ofActor, ofView, ofPlace, outsideOf, storeOf};
+ghost use Rattle.rules.specs.About.{aboutOf, lookingBack, nextView, ofActor, ofView, ofPlace, outsideAbout, storeOf};
 ghost use Rattle.protocol.specs.Rule.{outside};
 use protocol::Step;
 use rules::about::About;
@@ -16,11 +17,13 @@ fn of_actor(actor: u8, whose: u8, store: u8) -> About
         making: false,
         acting: true,
         actor,
-        view: 0,
+        key: 0,
+        role: 0,
         whose,
         store,
         other: 0,
         causes: 0,
+        what: 0,
     }
 }
 
@@ -32,11 +35,13 @@ fn looking_back(actor: u8, making: bool, other: u8, store: u8, causes: u16) -> A
         making,
         acting: true,
         actor,
-        view: 0,
+        key: 0,
+        role: 0,
         whose: 0,
         store,
         other,
         causes,
+        what: 0,
     }
 }
 
@@ -48,27 +53,31 @@ fn of_view(key: u8, role: u8, whose: u8) -> About
         making: false,
         acting: false,
         actor: 0,
-        view: key as usize * 2 + role as usize,
+        key,
+        role,
         whose,
         store: 0,
         other: 0,
         causes: 0,
+        what: 0,
     }
 }
 
-fn of_place(store: u8, key: u8, role: u8) -> About
-    ensures { λ r. ⌜ r ≡ ofPlace store key role ⌝ }
+fn of_place(what: u8, store: u8, key: u8, role: u8) -> About
+    ensures { λ r. ⌜ r ≡ ofPlace what store key role ⌝ }
 {
     About {
         back: false,
         making: false,
         acting: false,
         actor: 0,
-        view: key as usize * 2 + role as usize,
+        key,
+        role,
         whose: 0,
         store,
         other: 0,
         causes: 0,
+        what,
     }
 }
 
@@ -87,22 +96,22 @@ pub(crate) fn about_of(s: Step) -> About
         Step::PreCheck { actor } => looking_back(actor, false, 0, 0, 0),
         Step::SendRecord { actor } => of_actor(actor, 1, 0),
         Step::Timeout { actor, store } => of_actor(actor, 0, store),
-        Step::TakeRecord { store, key, role } => of_place(store, key, role),
-        Step::TakeAck { store, key, role } => of_place(store, key, role),
+        Step::TakeRecord { store, key, role } => of_place(0, store, key, role),
+        Step::TakeAck { store, key, role } => of_place(0, store, key, role),
         Step::PostCheck { actor } => of_actor(actor, 0, 0),
         Step::TakeRepair { key, role } => of_view(key, role, 0),
         Step::SendUpdate { key, role } => of_view(key, role, 2),
-        Step::TakeUpdate { store, key, role } => of_place(store, key, role),
-        Step::TakeUack { store, key, role } => of_place(store, key, role),
+        Step::TakeUpdate { store, key, role } => of_place(0, store, key, role),
+        Step::TakeUack { store, key, role } => of_place(0, store, key, role),
         Step::Expire { key, role } => of_view(key, role, 0),
         Step::Lose {
             what,
             store,
             key,
             role,
-        } => of_place(store, key, role),
-        Step::Crash { store } => of_place(store, 0, 0),
-        Step::Restart { store } => of_place(store, 0, 0),
+        } => of_place(what, store, key, role),
+        Step::Crash { store } => of_actor(0, 0, store),
+        Step::Restart { store } => of_actor(0, 0, store),
     }
 }
 
@@ -118,15 +127,15 @@ fn next_view(made: u8) -> usize
 }
 
 // The view that is named, the one to be made, or the head of the actor's queue.
-pub(crate) fn view_of(acting: bool, making: bool, made: u8, head: u8, named: usize) -> usize
-    requires { ⌜ (head < 32) × (named < 32) ⌝ }
-    ensures same { λ r. ⌜ r ≡ pick acting (pick making (nextView made) head) named ⌝ }
+pub(crate) fn view_of(b: About, made: u8, head: u8) -> usize
+    requires { ⌜ (head < 32) × (b .acting ≡ false → number (b .key) (b .role) < 32) ⌝ }
+    ensures same { λ r. ⌜ r ≡ pick (b .acting) (pick (b .making) (nextView made) head) (number (b .key) (b .role)) ⌝ }
     ensures low { λ r. ⌜ r < 32 ⌝ }
 {
-    if !acting {
-        return named;
+    if !b.acting {
+        return b.key as usize * 2 + b.role as usize;
     }
-    if making {
+    if b.making {
         return next_view(made);
     }
     head as usize
@@ -169,82 +178,34 @@ pub(crate) fn made_of(making: bool, after: u8, before: u8) -> u8
     before
 }
 
-fn outside_view(made: u8, key: u8, role: u8) -> bool
-    ensures { λ r. ⌜ r ≡ (outside key made || outside role 2) ⌝ }
+// The key isn't made, where a view is named, or the role is none.
+fn outside_view(acting: bool, key: u8, role: u8, made: u8) -> bool
+    ensures { λ r. ⌜ r ≡ (pick acting false (outside key made) || outside role 2) ⌝ }
 {
+    if acting {
+        return 2 <= role;
+    }
     if made <= key {
         return true;
     }
     2 <= role
 }
 
-fn outside_place(stores: u8, made: u8, store: u8, key: u8, role: u8) -> bool
-    ensures { λ r. ⌜ r ≡ (outside store stores || outside key made || outside role 2) ⌝ }
+// A number that a step is about isn't in this machine.
+pub(crate) fn names_outside(b: About, stores: u8, actors: u8, made: u8) -> bool
+    ensures { λ r. ⌜ r ≡ outsideAbout stores actors made b ⌝ }
 {
-    if stores <= store {
+    if 4 <= b.what {
         return true;
     }
-    outside_view(made, key, role)
-}
-
-fn outside_timeout(stores: u8, actors: u8, actor: u8, store: u8) -> bool
-    ensures { λ r. ⌜ r ≡ (outside actor actors || outside store stores) ⌝ }
-{
-    if actors <= actor {
+    if actors <= b.actor {
         return true;
     }
-    stores <= store
-}
-
-fn outside_loss(stores: u8, made: u8, what: u8, store: u8, key: u8, role: u8) -> bool
-    ensures { λ r. ⌜ r ≡ (outside what 4 || outside store stores || outside key made || outside role 2) ⌝ }
-{
-    if 4 <= what {
+    if actors <= b.other {
         return true;
     }
-    outside_place(stores, made, store, key, role)
-}
-
-fn outside_send(stores: u8, actors: u8, from: u8, to: u8, own: u8) -> bool
-    ensures { λ r. ⌜ r ≡ (outside from actors || outside to actors || outside own stores) ⌝ }
-{
-    if actors <= from {
+    if stores <= b.store {
         return true;
     }
-    outside_timeout(stores, actors, to, own)
-}
-
-// A number that the step names isn't in this machine.
-pub(crate) fn names_outside(s: Step, stores: u8, actors: u8, made: u8) -> bool
-    ensures { λ r. ⌜ r ≡ outsideOf stores actors made s ⌝ }
-{
-    match s {
-        Step::Send {
-            from,
-            to,
-            own,
-            word,
-            causes,
-        } => outside_send(stores, actors, from, to, own),
-        Step::Receive { key } => made <= key,
-        Step::PreCheck { actor } => actors <= actor,
-        Step::SendRecord { actor } => actors <= actor,
-        Step::Timeout { actor, store } => outside_timeout(stores, actors, actor, store),
-        Step::TakeRecord { store, key, role } => outside_place(stores, made, store, key, role),
-        Step::TakeAck { store, key, role } => outside_place(stores, made, store, key, role),
-        Step::PostCheck { actor } => actors <= actor,
-        Step::TakeRepair { key, role } => outside_view(made, key, role),
-        Step::SendUpdate { key, role } => outside_view(made, key, role),
-        Step::TakeUpdate { store, key, role } => outside_place(stores, made, store, key, role),
-        Step::TakeUack { store, key, role } => outside_place(stores, made, store, key, role),
-        Step::Expire { key, role } => outside_view(made, key, role),
-        Step::Lose {
-            what,
-            store,
-            key,
-            role,
-        } => outside_loss(stores, made, what, store, key, role),
-        Step::Crash { store } => stores <= store,
-        Step::Restart { store } => stores <= store,
-    }
+    outside_view(b.acting, b.key, b.role, made)
 }

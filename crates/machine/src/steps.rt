@@ -37,14 +37,14 @@ impl Machine {
         let mut i: usize = 0;
         while i < n {
             let s = steps[i];
-            if names_outside(s, m.stores, m.actors, m.made) {
+            let b = about_of(s);
+            if names_outside(b, m.stores, m.actors, m.made) {
                 room[from + i] = 2;
                 i += 1;
                 continue;
             }
-            let b = about_of(s);
             let named = m.queues[b.actor as usize];
-            let v = view_of(b.acting, b.making, m.made, named.views[0], b.view);
+            let v = view_of(b, m.made, named.views[0]);
             let w = m.views[v];
             let e = m.entries[v];
             let a = actor_of(b.acting, b.actor, w.actor);

@@ -3,28 +3,16 @@ use Prim.Native.Nat.{ℕ, _/_, _%_}
 use mathlib.Core.List.{List, [], _∷_, _++_}
 use lib.ListN.{length}
 use Rattle.protocol.specs.declared.Step.{Step}
-use Rattle.protocol.specs.declared.Step.the-variants.{Send, Receive, PreCheck, SendRecord, Timeout, TakeRecord, TakeAck, PostCheck, TakeRepair, SendUpdate, TakeUpdate, TakeUack, Expire, Lose, Crash, Restart}
+use Rattle.protocol.specs.Kinds.{numbers, onSend}
 use Rattle.protocol.specs.Book.{Reading}
 
 -- each kind then its fields, one byte each, but data four bytes and causes two, low first
 abbrev pub written : Step → List ℕ
-written (Send from to own word causes) =
-    1 ∷ from ∷ to ∷ own ∷ word % 256 ∷ word / 256 % 256 ∷ word / 65536 % 256 ∷ word / 16777216 ∷ causes % 256 ∷ causes / 256 ∷ []
-written (Receive k) = 2 ∷ k ∷ []
-written (PreCheck a) = 3 ∷ a ∷ []
-written (SendRecord a) = 4 ∷ a ∷ []
-written (Timeout a p) = 5 ∷ a ∷ p ∷ []
-written (TakeRecord p k r) = 6 ∷ p ∷ k ∷ r ∷ []
-written (TakeAck p k r) = 7 ∷ p ∷ k ∷ r ∷ []
-written (PostCheck a) = 8 ∷ a ∷ []
-written (TakeRepair k r) = 9 ∷ k ∷ r ∷ []
-written (SendUpdate k r) = 10 ∷ k ∷ r ∷ []
-written (TakeUpdate p k r) = 11 ∷ p ∷ k ∷ r ∷ []
-written (TakeUack p k r) = 12 ∷ p ∷ k ∷ r ∷ []
-written (Expire k r) = 13 ∷ k ∷ r ∷ []
-written (Lose what p k r) = 14 ∷ what ∷ p ∷ k ∷ r ∷ []
-written (Crash p) = 15 ∷ p ∷ []
-written (Restart p) = 16 ∷ p ∷ []
+written s =
+    onSend s
+    (λ from to own word causes.
+    1 ∷ from ∷ to ∷ own ∷ word % 256 ∷ word / 256 % 256 ∷ word / 65536 % 256 ∷ word / 16777216 ∷ causes % 256 ∷ causes / 256 ∷ [])
+    (numbers s)
 
 unfoldable pub writtenSteps : List Step → List ℕ
 writtenSteps [] = []

@@ -2,39 +2,29 @@
 -- Assumes nothing.
 use Prim.Native.Nat.{ℕ, zero, suc, _+_, _*_, _/_, _%_, _≤_, _<_}
 use mathlib.Core.Path.{_≡_, refl, sym, ap, _∙_}
-use mathlib.Core.Bool.{Bool, true, false, _||_, false≢true, and-eq-true-iff}
+use mathlib.Core.Bool.{Bool, true, false, _||_, false≢true}
 use mathlib.Core.List.{List, [], _∷_, _++_, append-assoc}
 use native.Mathlib.Omega.{arith}
 use native.Mathlib.Numerals.{add-one}
-use native.Mathlib.Nat.{add-assoc}
-use lib.Dec.{leb, ltb, eqb}
-use lib.ListN.{length, drop, List·getD-eq-default}
+use lib.Dec.{leb, eqb}
+use lib.ListN.{length, drop}
 use lib.Seq.{drop-cons, drop-length}
 use lib.Pow.{areBytes}
-use borrow.Author.Tests.{ltb-true, ltb-false, leb-false, eqb-false, eqb-true}
+use borrow.Author.Tests.{leb-false, eqb-false, eqb-true}
 use Rattle.protocol.specs.Words.{pick, table}
 use Rattle.protocol.specs.declared.Step.{Step}
 use Rattle.protocol.specs.declared.Read.{Read}
 use Rattle.protocol.specs.declared.Read.the-variants.{Got, Bad}
-use Rattle.protocol.specs.Book.{byte, low16, widths, widthOf, repairMade, shortMade, stepMade, readStep, onRead, validFrom, stepsFrom, homeRead, listRead, actorsRead, startOf, countOf, wellFormed, readingOf}
+use Rattle.protocol.specs.Book.{byte, low16, widthOf, stepMade, readStep, onRead, validFrom, stepsFrom, homeRead, listRead, actorsRead, startOf, countOf, wellFormed, readingOf}
 use Rattle.protocol.specs.Run.{stepsRead}
 use Rattle.protocol.specs.Write.{written, writtenSteps, writtenRows, writtenBook}
 use Rattle.unbroken.proofs.Laws.Every.{length-table}
+use Rattle.reads.proofs.Step.{byte-low, from, step-same, c0, c1}
 use Rattle.reads.proofs.Formed.{valid-all, start-fits, count-steps}
 use Rattle.reads.specs.Reading.{ReadsAlike, WritesAgain, OneReading}
 
 pub reads-alike : ReadsAlike
 reads-alike s t e = ap readingOf e
-
-pub byte-low : (s : List ℕ) → areBytes s ≡ true → (i : ℕ) → byte s i < 256
-byte-low [] h i = omega arith
-byte-low (b ∷ s) h zero = ltb-true b 256 (and-eq-true-iff (ltb b 256) (areBytes s) .0 h .0)
-byte-low (b ∷ s) h (suc i) = byte-low s (and-eq-true-iff (ltb b 256) (areBytes s) .0 h .1) i
-
--- n bytes from i
-abbrev pub from : List ℕ → ℕ → ℕ → List ℕ
-from s i zero = []
-from s i (suc n) = byte s i ∷ from s (i + 1) n
 
 drop-from : (s : List ℕ) (i n : ℕ) → i + n ≤ length s → drop i s ≡ from s i n ++ drop (i + n) s
 drop-from s i zero h = let e : i + 0 ≡ i = omega arith in rw e
@@ -42,72 +32,6 @@ drop-from s i (suc n) h =
     let b : i < length s = omega arith in
     let e : i + suc n ≡ (i + 1) + n = omega arith in
     drop-cons s i 0 b ∙ ap (λ (l : List ℕ). byte s i ∷ l) (rw (← add-one, e) (drop-from s (i + 1) n (omega arith)))
-
--- what holds of k, k + 1, .., k + n holds of each number between them
-abbrev Each : (ℕ → Type 0) → ℕ → ℕ → Type 0
-Each P k zero = P k
-Each P k (suc n) = P k × Each P (suc k) n
-
-each : (P : ℕ → Type 0) (k n : ℕ) → Each P k n → (i : ℕ) → k ≤ i → i ≤ k + n → P i
-each P k zero p i a b = let e : i ≡ k = omega arith in rw e p
-each P k (suc n) p i a b = go (each P (suc k) n (p .1) i) (eqb i k) refl
-  where
-    go : (suc k ≤ i → i ≤ suc k + n → P i) → (t : Bool) → eqb i k ≡ t → P i
-    go f true e = rw (eqb-true i k e) (p .0)
-    go f false e = let d : i ≡ k → ⊥ = eqb-false i k e in f (omega arith) (omega arith)
-
--- a kind that has fields is one of sixteen
-width-behind : (k : ℕ) → 16 < k → widthOf k ≡ 0
-unfolding widthOf
-width-behind k h = List·getD-eq-default widths 0 h
-
-kind-low : (k : ℕ) → (widthOf k ≡ 0 → ⊥) → (1 ≤ k) × (k ≤ 16)
-unfolding widthOf
-kind-low zero h = absurd (h refl)
-kind-low (suc k) h = (omega arith, go (ltb 16 (suc k)) refl)
-  where
-    go : (t : Bool) → ltb 16 (suc k) ≡ t → suc k ≤ 16
-    go true e = absurd (h (width-behind (suc k) (ltb-true 16 (suc k) e)))
-    go false e = ltb-false 16 (suc k) e
-
--- two and four bytes, low first, come back
-module _ (a b c d : ℕ) (ha : a < 256) (hb : b < 256) (hc : c < 256) (hd : d < 256) where
-  d0 : ((a + b * 256) + (c + d * 256) * 65536) % 256 ≡ a
-  d0 = omega arith
-
-  d1 : ((a + b * 256) + (c + d * 256) * 65536) / 256 % 256 ≡ b
-  d1 = omega arith
-
-  d2 : ((a + b * 256) + (c + d * 256) * 65536) / 65536 % 256 ≡ c
-  d2 = omega arith
-
-  d3 : ((a + b * 256) + (c + d * 256) * 65536) / 16777216 ≡ d
-  d3 = omega arith
-
-  c0 : (a + b * 256) % 256 ≡ a
-  c0 = omega arith
-
-  c1 : (a + b * 256) / 256 ≡ b
-  c1 = omega arith
-
--- a step that was made of bytes, written again, is those bytes
-module _ (s : List ℕ) (bs : areBytes s ≡ true) (i : ℕ) where
-  abbrev Same : ℕ → Type 0
-  Same k = written (stepMade s k i) ≡ k ∷ from s i (widthOf k)
-
-  send-same : Same 1
-  unfolding stepMade widthOf
-  send-same =
-      let w : (x : ℕ → ℕ → ℕ → ℕ → Type 0) → ((a b c d : ℕ) → a < 256 → b < 256 → c < 256 → d < 256 → x a b c d) → (j k : ℕ) → x (byte s j) (byte s (j + 1)) (byte s k) (byte s (k + 1))
-      = λ x f j k. f _ _ _ _ (byte-low s bs j) (byte-low s bs (j + 1)) (byte-low s bs k) (byte-low s bs (k + 1)) in
-      rw (w _ d0 (i + 3) (i + 3 + 2), w _ d1 (i + 3) (i + 3 + 2), w _ d2 (i + 3) (i + 3 + 2), w _ d3 (i + 3) (i + 3 + 2), w _ c0 (i + 7) (i + 7), w _ c1 (i + 7) (i + 7)) (simp add-assoc)
-
-  pub step-same : (k : ℕ) → (widthOf k ≡ 0 → ⊥) → Same k
-  unfolding stepMade shortMade repairMade widthOf
-  step-same k h =
-      each Same 1 15
-      (send-same, (refl, (refl, (refl, (refl, (simp add-assoc, (simp add-assoc, (refl, (refl, (refl, (simp add-assoc, (simp add-assoc, (refl, (simp add-assoc, (refl, refl)))))))))))))))
-      k (kind-low k h .0) (kind-low k h .1)
 
 -- what a step that was read says of the bytes
 pub record Found (s : List ℕ) (at : ℕ) (step : Step) (behind : ℕ) : Type 0 where

@@ -3,6 +3,7 @@ pub mod Reading
 pub mod Formed
 pub mod Fold
 pub mod Example
+pub mod Step
 pub mod Again
 pub mod Written
 pub mod Range

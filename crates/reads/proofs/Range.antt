@@ -5,23 +5,26 @@ use mathlib.Core.Logic.{⊎-elim}
 use mathlib.Core.Bool.{true, false, false≢true}
 use mathlib.Core.List.{List, [], _∷_, _++_, map, List·Memᴰ, List·Memᴰ·head, List·Memᴰ·tail, List·Memᴰ·not-nil, List·Memᴰ·cases-cons}
 use native.Mathlib.Omega.{arith}
-use lib.Dec.{leb, ltb}
-use lib.ListN.{length, getD}
+use lib.Dec.{leb, ltb, eqb}
+use lib.ListN.{length}
 use lib.Pow.{areBytes}
 use borrow.Author.Tests.{lt-ltb, leb-true, ltb-true, eqb-true}
 use Rattle.protocol.specs.Words.{table}
 use Rattle.protocol.specs.declared.Step.{Step}
-use Rattle.protocol.specs.declared.Step.the-variants.{Send, Receive, PreCheck, SendRecord, Timeout, TakeRecord, TakeAck, PostCheck, TakeRepair, SendUpdate, TakeUpdate, TakeUack, Expire, Lose, Crash, Restart}
+use Rattle.protocol.specs.declared.Step.the-variants.{Send}
 use Rattle.protocol.specs.declared.Read.{Read}
 use Rattle.protocol.specs.declared.Read.the-variants.{Got, Bad}
 use Rattle.protocol.specs.Book.{Reading, byte, widthOf, readStep, onRead, validFrom, stepsFrom, homeRead, listRead, actorsRead, startOf, countOf, wellFormed, readingOf}
+use Rattle.protocol.specs.Kinds.{kind}
 use Rattle.protocol.specs.Write.{written, writtenSteps, writtenRows, writtenBook}
 use Rattle.unbroken.proofs.Laws.Tests.{and-left, and-right, and-both}
 use Rattle.unbroken.proofs.Laws.Every.{length-table}
 use Rattle.reads.proofs.Formed.{valid-all, count-steps}
 use Rattle.reads.proofs.Reading.{width-low}
-use Rattle.reads.proofs.Again.{byte-low, from, Found, found, step-same}
+use Rattle.reads.proofs.Step.{byte-low, from, step-same}
+use Rattle.reads.proofs.Again.{Found, found}
 use Rattle.keeps.specs.Applies.{Thing, valueOf, named}
+use Rattle.keeps.proofs.Which.{Kind, a-send, another, kinds}
 use Rattle.reads.specs.Reading.{StepInRange, InRange, BookIsShort}
 
 -- bytes, by their numbers
@@ -49,29 +52,6 @@ low-things : (l : List Thing) → Low (map valueOf l) → (x : Thing) → List·
 low-things [] f x h = absurd (List·Memᴰ·not-nil h)
 low-things (y ∷ l) f x h = ⊎-elim (λ e. subst (λ (z : Thing). valueOf z < 256) (sym e) (f .0)) (λ g. low-things l (f .1) x g) (List·Memᴰ·cases-cons h)
 
--- a send, or a kind whose fields are what it names, a byte each
-data Form (s : Step) : Type 0 where
-  long : (from to own word causes : ℕ) → s ≡ Send from to own word causes → Form s
-  short : (kind : ℕ) → 1 < kind → kind < 256 → written s ≡ kind ∷ map valueOf (named s) → Form s
-
-form : (s : Step) → Form s
-form (Send from to own word causes) = long from to own word causes refl
-form (Receive k) = short 2 (omega arith) (omega arith) refl
-form (PreCheck a) = short 3 (omega arith) (omega arith) refl
-form (SendRecord a) = short 4 (omega arith) (omega arith) refl
-form (Timeout a p) = short 5 (omega arith) (omega arith) refl
-form (TakeRecord p k r) = short 6 (omega arith) (omega arith) refl
-form (TakeAck p k r) = short 7 (omega arith) (omega arith) refl
-form (PostCheck a) = short 8 (omega arith) (omega arith) refl
-form (TakeRepair k r) = short 9 (omega arith) (omega arith) refl
-form (SendUpdate k r) = short 10 (omega arith) (omega arith) refl
-form (TakeUpdate p k r) = short 11 (omega arith) (omega arith) refl
-form (TakeUack p k r) = short 12 (omega arith) (omega arith) refl
-form (Expire k r) = short 13 (omega arith) (omega arith) refl
-form (Lose w p k r) = short 14 (omega arith) (omega arith) refl
-form (Crash p) = short 15 (omega arith) (omega arith) refl
-form (Restart p) = short 16 (omega arith) (omega arith) refl
-
 -- a step is within range exactly if it is written as bytes
 module _ (from to own word causes : ℕ) where
   abbrev send : Step
@@ -96,23 +76,21 @@ module _ (from to own word causes : ℕ) where
       }
 
 range-low : (s : Step) → StepInRange s → Low (written s)
-range-low s f = go (form s)
+range-low s f = go (kinds s)
   where
-    go : Form s → Low (written s)
-    go (long from to own word causes e) = subst (λ (x : Step). Low (written x)) (sym e) (send-low from to own word causes (subst StepInRange e f))
-    go (short kind l h e) = subst Low (sym e) (h, things-low (named s) (f .bytes))
+    go : Kind s → Low (written s)
+    go (a-send from to own word causes e) = subst (λ (x : Step). Low (written x)) (sym e) (send-low from to own word causes (subst StepInRange e f))
+    go (another o) = subst Low (sym (o .bytes)) (o .low, things-low (named s) (f .bytes))
 
 low-range : (s : Step) → Low (written s) → StepInRange s
-low-range s f = go (form s)
+low-range s f = go (kinds s)
   where
-    go : Form s → StepInRange s
-    go (long from to own word causes e) = subst StepInRange (sym e) (send-range from to own word causes (subst (λ (x : Step). Low (written x)) e f))
-    go (short kind l h e) =
+    go : Kind s → StepInRange s
+    go (a-send from to own word causes e) = subst StepInRange (sym e) (send-range from to own word causes (subst (λ (x : Step). Low (written x)) e f))
+    go (another o) =
         record {
-          bytes = low-things (named s) (subst Low e f .1);
-          wide = λ from to own word causes q.
-              let a : kind ≡ 1 = sym (ap (λ (x : List ℕ). getD x 0 0) e) ∙ ap (λ (x : Step). getD (written x) 0 0) q in
-              absurd (omega arith);
+          bytes = low-things (named s) (subst Low (o .bytes) f .1);
+          wide = λ from to own word causes q. absurd (false≢true (sym (o .other) ∙ ap (λ (x : Step). eqb (kind x) 1) q));
         }
 
 steps-bytes : (l : List Step) → ((x : Step) → List·Memᴰ x l → StepInRange x) → areBytes (writtenSteps l) ≡ true

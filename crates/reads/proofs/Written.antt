@@ -1,78 +1,20 @@
--- What was written is read: each step is found where it was written, then the rows, the counts and the whole. Assumes nothing.
+-- What was written is read: all steps, then the rows, the counts and the whole. Assumes nothing.
 use Prim.Native.Nat.{ℕ, zero, suc, _+_, _*_, _/_, _%_, _≤_, _<_}
 use mathlib.Core.Path.{_≡_, refl, sym, ap, _∙_}
 use mathlib.Core.Bool.{true}
 use mathlib.Core.List.{List, [], _∷_, _++_}
 use native.Mathlib.Omega.{arith}
 use lib.ListN.{length, getD, drop, length-append, List·getD-append}
-use lib.Seq.{getD-at, getD-append-add, getD-drop, drop-append-add, drop-append-seam, drop-drop, ext-getD}
-use borrow.Author.Tests.{lt-leb, le-leb, eq-eqb, ne-eqb}
+use lib.Seq.{getD-at, getD-append-add, drop-append-add, drop-append-seam, drop-drop, ext-getD}
+use borrow.Author.Tests.{le-leb, eq-eqb}
 use Rattle.protocol.specs.Words.{table}
 use Rattle.protocol.specs.declared.Step.{Step}
-use Rattle.protocol.specs.declared.Step.the-variants.{Send, Receive, PreCheck, SendRecord, Timeout, TakeRecord, TakeAck, PostCheck, TakeRepair, SendUpdate, TakeUpdate, TakeUack, Expire, Lose, Crash, Restart}
 use Rattle.protocol.specs.declared.Read.the-variants.{Got}
-use Rattle.protocol.specs.Book.{Reading, byte, widthOf, repairMade, shortMade, stepMade, readStep, validFrom, stepsFrom, homeRead, listRead, startOf, countOf, wellFormed, readingOf}
+use Rattle.protocol.specs.Book.{Reading, byte, readStep, validFrom, stepsFrom, homeRead, listRead, startOf, countOf, wellFormed, readingOf}
 use Rattle.protocol.specs.Write.{written, writtenSteps, writtenRows, writtenBook}
 use Rattle.unbroken.proofs.Laws.Tests.{and-both}
 use Rattle.unbroken.proofs.Laws.Every.{length-table, table-at}
-use Rattle.reads.proofs.Again.{from}
-
--- where a step was written, it is read
-read-at : (s : List ℕ) (at kind width : ℕ) → byte s at ≡ kind → widthOf kind ≡ width → 1 ≤ width → at + width < length s → readStep s at ≡ Got (stepMade s kind (at + 1)) (at + 1 + width)
-unfolding readStep
-read-at s at kind width b w one fits =
-    rw (b, w, lt-leb (length s) at (omega arith), ne-eqb width 0 (omega arith), lt-leb (length s) (at + width) fits)
-
-made-at : (s : List ℕ) (at kind : ℕ) → stepMade s kind (at + 1) ≡ stepMade (drop at s) kind 1
-unfolding stepMade shortMade repairMade
-made-at s at kind =
-    let b : (i j : ℕ) → i ≡ at + j → byte s i ≡ byte (drop at s) j = λ i j e. ap (byte s) e ∙ sym (getD-drop at s j 0) in
-    rw (
-      b (at + 1 + 3 + 2 + 1) 7 (omega arith),
-      b (at + 1 + 3 + 2) 6 (omega arith),
-      b (at + 1 + 3 + 1) 5 (omega arith),
-      b (at + 1 + 7 + 1) 9 (omega arith),
-      b (at + 1 + 7) 8 (omega arith),
-      b (at + 1 + 3) 4 (omega arith),
-      b (at + 1 + 2) 3 (omega arith),
-      b (at + 1 + 1) 2 (omega arith),
-      b (at + 1) 1 (omega arith),
-    )
-
-module _ (s : List ℕ) (at : ℕ) (rest : List ℕ) where
-  there : (x : Step) (kind width : ℕ) → drop at s ≡ written x ++ rest → at + length (written x ++ rest) ≡ length s → getD (written x ++ rest) 0 0 ≡ kind → widthOf kind ≡ width → 1 ≤ width
-      → length (written x) ≡ suc width → stepMade (written x ++ rest) kind 1 ≡ x → readStep s at ≡ Got x (at + length (written x))
-  there x kind width e l k w one long made =
-      let h : at + 0 ≡ at = omega arith in
-      let b : byte s at ≡ kind = sym (getD-drop at s 0 0 ∙ ap (byte s) h) ∙ ap (λ (t : List ℕ). getD t 0 0) e ∙ k in
-      let n : length (written x ++ rest) ≡ length (written x) + length rest = length-append (written x) rest in
-      let g : at + 1 + width ≡ at + length (written x) = omega arith in
-      read-at s at kind width b w one (omega arith) ∙ rw (made-at s at kind, e, made, g)
-
-  word-again : (x : ℕ) → (x % 256 + x / 256 % 256 * 256) + (x / 65536 % 256 + x / 16777216 * 256) * 65536 ≡ x
-  word-again x = omega arith
-
-  causes-again : (x : ℕ) → x % 256 + x / 256 * 256 ≡ x
-  causes-again x = omega arith
-
-  step-there : (x : Step) → drop at s ≡ written x ++ rest → at + length (written x ++ rest) ≡ length s → readStep s at ≡ Got x (at + length (written x))
-  unfolding stepMade shortMade repairMade widthOf
-  step-there (Send from to own word causes) e l = there (Send from to own word causes) 1 9 e l refl refl (omega arith) refl (rw (word-again word, causes-again causes))
-  step-there (Receive k) e l = there (Receive k) 2 1 e l refl refl (omega arith) refl refl
-  step-there (PreCheck a) e l = there (PreCheck a) 3 1 e l refl refl (omega arith) refl refl
-  step-there (SendRecord a) e l = there (SendRecord a) 4 1 e l refl refl (omega arith) refl refl
-  step-there (Timeout a p) e l = there (Timeout a p) 5 2 e l refl refl (omega arith) refl refl
-  step-there (TakeRecord p k r) e l = there (TakeRecord p k r) 6 3 e l refl refl (omega arith) refl refl
-  step-there (TakeAck p k r) e l = there (TakeAck p k r) 7 3 e l refl refl (omega arith) refl refl
-  step-there (PostCheck a) e l = there (PostCheck a) 8 1 e l refl refl (omega arith) refl refl
-  step-there (TakeRepair k r) e l = there (TakeRepair k r) 9 2 e l refl refl (omega arith) refl refl
-  step-there (SendUpdate k r) e l = there (SendUpdate k r) 10 2 e l refl refl (omega arith) refl refl
-  step-there (TakeUpdate p k r) e l = there (TakeUpdate p k r) 11 3 e l refl refl (omega arith) refl refl
-  step-there (TakeUack p k r) e l = there (TakeUack p k r) 12 3 e l refl refl (omega arith) refl refl
-  step-there (Expire k r) e l = there (Expire k r) 13 2 e l refl refl (omega arith) refl refl
-  step-there (Lose w p k r) e l = there (Lose w p k r) 14 4 e l refl refl (omega arith) refl refl
-  step-there (Crash p) e l = there (Crash p) 15 1 e l refl refl (omega arith) refl refl
-  step-there (Restart p) e l = there (Restart p) 16 1 e l refl refl (omega arith) refl refl
+use Rattle.reads.proofs.Step.{step-there}
 
 -- and so are all
 steps-there : (steps : List Step) (s : List ℕ) (at : ℕ) → drop at s ≡ writtenSteps steps → at + length (writtenSteps steps) ≡ length s → (validFrom s (length steps) at ≡ true) × (stepsFrom s (length steps) at ≡ steps)

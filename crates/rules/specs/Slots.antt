@@ -106,6 +106,6 @@ pub record Fits (b : About) (x : Slots) : Type 0 where
   pub store8 : x .store < 8
   pub viewlink8 : x .view .viewlink < 8
   pub own8 : x .entry .own < 8
-  pub named : b .acting ≡ false → x .number ≡ b .view
+  pub named : b .acting ≡ false → x .number ≡ number (b .key) (b .role)
   pub room : b .acting ≡ false → x .number % 2 ≡ 1 → x .view .phase ≡ 0 → x .queue .len < 16
   pub sendRoom : b .making ≡ true → x .made < 16 → x .queue .len < 16

@@ -11,7 +11,7 @@ ghost use Rattle.protocol.specs.Run.{refusedRun, runOf, bufferOf};
 mod batch;
 mod book;
 mod heading;
-mod reader;
+pub mod reader;
 mod steps;
 
 // 10, 11 and 12 return the empty machine.

@@ -38,8 +38,9 @@ pub(crate) fn byte_at(book: &[u8], at: usize) -> u8
     byte(new(book, at))
 }
 
-pub(crate) fn step_at(book: &[u8], at: usize) -> Read
-    ensures { λ s. ⌜ s ≡ readStep (now (book .entry)) at ⌝ }
+// Public, so that whoever else has a step as bytes reads it by the book's own reader.
+pub fn step_at(book: &[u8], at: usize) -> Read
+    ensures { λ r. ⌜ r ≡ readStep (now (book .entry)) at ⌝ }
 {
     step(new(book, at))
 }

@@ -4,17 +4,20 @@ use crate::change::place_at;
 use crate::change::view_at;
 use crate::print;
 use crate::row::Row;
-use crate::step;
 use machine::Machine;
 use protocol::Entry;
 use protocol::Ran;
+use protocol::Read;
 use protocol::State;
 use protocol::View;
+use runs::reader;
 
 // T kind fields: the answer.
 fn step(m: State, n: [u8; 64]) {
-    let r = Machine { state: m }.step(step::read(n));
-    print::small(r.answer);
+    if let Read::Got(s, _) = reader::step_at(&n, 1) {
+        let r = Machine { state: m }.step(s);
+        print::small(r.answer);
+    }
 }
 
 // D: the answer and the count.

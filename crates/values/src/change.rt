@@ -1,18 +1,19 @@
 // What a row changes: a slot, or by a step or the drain the whole state.
 ghost use Prim.Native.Nat.{_<_};
 use crate::row::Row;
-use crate::step;
 use machine::Machine;
 use protocol::Contents;
 use protocol::Entry;
 use protocol::Links;
 use protocol::Message;
 use protocol::Queue;
+use protocol::Read;
 use protocol::Repair;
 use protocol::Setup;
 use protocol::State;
 use protocol::Status;
 use protocol::View;
+use runs::reader;
 
 // Setup M of document 01: three stores, actor 0 home 0 list 5, actor 1 home 1 list 6.
 pub(crate) fn fresh() -> State {
@@ -198,11 +199,16 @@ fn copies(mut m: State, n: [u8; 64]) -> State {
     m
 }
 
-// T kind fields.
+// T kind fields, as bytes of a book.
 fn stepped(m: State, n: [u8; 64]) -> State {
-    let r = Machine { state: m }.step(step::read(n));
-    let after = r.machine;
-    after.state
+    match reader::step_at(&n, 1) {
+        Read::Bad => m,
+        Read::Got(s, _) => {
+            let r = Machine { state: m }.step(s);
+            let after = r.machine;
+            after.state
+        }
+    }
 }
 
 fn drained(m: State) -> State {

@@ -4,7 +4,6 @@ mod ask;
 mod change;
 mod print;
 mod row;
-mod step;
 mod table;
 
 use libc::STDIN_FILENO;

@@ -8,11 +8,14 @@ use mathlib.Core.Logic.{⊎-elim}
 use native.Mathlib.Omega.{arith}
 use borrow.Author.Needs.{needs}
 use lib.ListN.{getD}
+use Rattle.unbroken.specs.Bounds.{Bounds}
 use Rattle.unbroken.proofs.Laws.{bounds}
-use Rattle.rules.specs.About.{outsideOf}
+use Rattle.protocol.specs.declared.State.{State}
+use Rattle.rules.specs.declared.about.About.{About}
+use Rattle.rules.specs.About.{outsideAbout}
 use Rattle.protocol.specs.declared.Step.the-variants.{Send}
-use Rattle.machine.proofs.Found.{Found, outside-refuses, looked, stands, written, fits}
-use Rattle.rules.proofs.Inside.{actor-low, view-about-low, store-low, other-low}
+use Rattle.machine.proofs.Found.{Found, about-refuses, looked, stands, written, fits}
+use Rattle.rules.proofs.Inside.{actor-low, view-low, store-low, other-low}
 use Rattle.machine.proofs.Taking.{Taking, take-start, take-step, take-end}
 use Rattle.machine.proofs.Machine.steps_unbroken.Statement.{statement}
 use Rattle.machine.proofs.Machine.steps_unbroken.Tie as tie
@@ -33,14 +36,14 @@ actor-at c = store-at c .before
 abbrev view-at : tie.Joined2 Inv-loop μ-loop → tie.After-view-of Inv-loop μ-loop
 view-at c = actor-at c .before .before .before
 
-abbrev about-at : tie.Joined2 Inv-loop μ-loop → tie.After-about-of Inv-loop μ-loop
-about-at c = view-at c .before .before .before .before
-
 abbrev inside-at : tie.Joined2 Inv-loop μ-loop → tie.Else1 Inv-loop μ-loop
-inside-at c = about-at c .before
+inside-at c = view-at c .before .before .before .before
+
+abbrev about-at : tie.Joined2 Inv-loop μ-loop → tie.After-about-of Inv-loop μ-loop
+about-at c = inside-at c .before .before
 
 abbrev test-at : tie.Joined2 Inv-loop μ-loop → tie.In-loop Inv-loop μ-loop
-test-at c = inside-at c .before .before .before
+test-at c = about-at c .before .before
 
 abbrev turn-at : tie.Joined2 Inv-loop μ-loop → tie.At-loop Inv-loop μ-loop
 turn-at c = test-at c .before
@@ -55,8 +58,17 @@ joined-at c = c .before .before .before .before .before .before .before .before 
 abbrev rule-at : tie.After-made-of Inv-loop μ-loop → tie.After-rule Inv-loop μ-loop
 rule-at c = c .before .before .before .before .before .before .before .before .before .before .before .before
 
--- no number that the step names lies outside
-inside : (c : tie.Else1 Inv-loop μ-loop) → outsideOf ((c .before .before .before .before .loop .m) .stores) ((c .before .before .before .before .loop .m) .actors) ((c .before .before .before .before .loop .m) .made) (getD (c .before .before .before .before .before .before .before .args .t2) (c .before .before .before .before .loop .i) (Send 0 0 0 0 0)) ≡ false
+-- where no number that the step is about lies outside: the machine, what the step is about, and that
+abbrev machine-in : tie.Else1 Inv-loop μ-loop → State
+machine-in c = c .before .before .before .before .before .loop .m
+
+abbrev about-in : tie.Else1 Inv-loop μ-loop → About
+about-in c = c .before .before .about-of .result
+
+bounds-in : (c : tie.Else1 Inv-loop μ-loop) → Bounds (machine-in c)
+bounds-in c = bounds (machine-in c) (c .before .before .before .before .before .loop .inv .unbroken)
+
+inside : (c : tie.Else1 Inv-loop μ-loop) → outsideAbout (machine-in c .stores) (machine-in c .actors) (machine-in c .made) (about-in c) ≡ false
 inside c = cc (c .before .names-outside .ensures, c .if1 .left)
 
 -- the view, the actor and the store are found as the definitions find them, and what the step looks back at is theirs
@@ -83,6 +95,9 @@ mul-s c = omega arith
 array-copy-out-s : tie.Need-array-copy-out-s Inv-loop μ-loop
 array-copy-out-s c = omega (arith, c .before .loop .inv .few)
 
+about-of-requires : tie.Need-about-of-requires Inv-loop μ-loop
+about-of-requires c κs = search needs
+
 names-outside-requires : tie.Need-names-outside-requires Inv-loop μ-loop
 names-outside-requires c κs = search needs
 
@@ -90,22 +105,21 @@ add-room : tie.Need-add-room Inv-loop μ-loop
 add-room c = search needs
 
 slice-write-room : tie.Need-slice-write-room Inv-loop μ-loop
-slice-write-room c = omega (arith, c .before .before .before .before .loop .inv .room, c .before .before .before .loop-test .taken)
+slice-write-room c = omega (arith, c .before .before .before .before .before .loop .inv .room, c .before .before .before .before .loop-test .taken)
 
 add-i : tie.Need-add-i Inv-loop μ-loop
-add-i c = omega (arith, c .before .before .before .before .loop .inv .few, c .before .before .before .loop-test .taken)
+add-i c = omega (arith, c .before .before .before .before .before .loop .inv .few, c .before .before .before .before .loop-test .taken)
 
 loop-less : tie.Need-loop-less Inv-loop μ-loop
-loop-less c = omega (arith, c .before .before .before .loop-test .taken)
+loop-less c = omega (arith, c .before .before .before .before .loop-test .taken)
 
 loop-again : tie.Need-loop-again Inv-loop μ-loop
 loop-again c =
-    let m = c .before .before .before .before .loop .m in
-    let outside : outsideOf (m .stores) (m .actors) (m .made) (getD (c .before .before .before .before .before .before .before .args .t2) (c .before .before .before .before .loop .i) (Send 0 0 0 0 0)) ≡ true = cc (c .before .names-outside .ensures, c .if1 .taken) in
-    take-step (c .before .before .before .before .loop .inv) (c .before .before .before .loop-test .taken) _ (sym (outside-refuses m (getD (c .before .before .before .before .before .before .before .args .t2) (c .before .before .before .before .loop .i) (Send 0 0 0 0 0)) outside))
-
-about-of-requires : tie.Need-about-of-requires Inv-loop μ-loop
-about-of-requires c κs = search needs
+    let m = c .before .before .before .before .before .loop .m in
+    let s = getD (c .before .before .before .before .before .before .before .before .args .t2) (c .before .before .before .before .before .loop .i) (Send 0 0 0 0 0) in
+    let b = c .before .before .about-of .result in
+    let outside : outsideAbout (m .stores) (m .actors) (m .made) b ≡ true = cc (c .before .names-outside .ensures, c .if1 .taken) in
+    take-step (c .before .before .before .before .before .loop .inv) (c .before .before .before .before .loop-test .taken) _ (sym (about-refuses m (c .before .before .before .before .before .loop .inv .unbroken) s b (c .before .before .about-of .ensures) outside))
 
 cast-named : tie.Need-cast-named Inv-loop μ-loop
 cast-named c = search needs
@@ -114,13 +128,13 @@ mul-named : tie.Need-mul-named Inv-loop μ-loop
 mul-named c = search needs
 
 element-copy-out-named : tie.Need-element-copy-out-named Inv-loop μ-loop
-element-copy-out-named c = rw (c .before .about-of .ensures) (actor-low _ (bounds _ (c .before .before .before .before .before .before .loop .inv .unbroken)) (getD (c .before .before .before .before .before .before .before .before .before .args .t2) (c .before .before .before .before .before .before .loop .i) (Send 0 0 0 0 0)) (inside (c .before .before)))
+element-copy-out-named c = actor-low (machine-in (c .before)) (bounds-in (c .before)) (about-in (c .before)) (inside (c .before))
 
 element-copy-out-view-of : tie.Need-element-copy-out-view-of Inv-loop μ-loop
 element-copy-out-view-of c = search needs
 
 view-of-requires : tie.Need-view-of-requires Inv-loop μ-loop
-view-of-requires c κs = ((bounds _ (c .before .before .before .before .before .before .before .before .loop .inv .unbroken)) .headIn32 _ (rw (c .before .before .before .about-of .ensures) (actor-low _ (bounds _ (c .before .before .before .before .before .before .before .before .loop .inv .unbroken)) (getD (c .before .before .before .before .before .before .before .before .before .before .before .args .t2) (c .before .before .before .before .before .before .before .before .loop .i) (Send 0 0 0 0 0)) (inside (c .before .before .before .before)))), rw (c .before .before .before .about-of .ensures) (view-about-low _ (bounds _ (c .before .before .before .before .before .before .before .before .loop .inv .unbroken)) (getD (c .before .before .before .before .before .before .before .before .before .before .before .args .t2) (c .before .before .before .before .before .before .before .before .loop .i) (Send 0 0 0 0 0)) (inside (c .before .before .before .before))))
+view-of-requires c κs = (bounds-in (c .before .before .before) .headIn32 _ (actor-low (machine-in (c .before .before .before)) (bounds-in (c .before .before .before)) (about-in (c .before .before .before)) (inside (c .before .before .before))), view-low (machine-in (c .before .before .before)) (bounds-in (c .before .before .before)) (about-in (c .before .before .before)) (inside (c .before .before .before)))
 
 mul-w : tie.Need-mul-w Inv-loop μ-loop
 mul-w c = search needs
@@ -135,10 +149,10 @@ element-copy-out-e : tie.Need-element-copy-out-e Inv-loop μ-loop
 element-copy-out-e c = search needs
 
 actor-of-requires : tie.Need-actor-of-requires Inv-loop μ-loop
-actor-of-requires c κs = (rw (c .before .before .before .before .before .before .about-of .ensures) (actor-low _ (bounds _ (c .before .before .before .before .before .before .before .before .before .before .before .loop .inv .unbroken)) (getD (c .before .before .before .before .before .before .before .before .before .before .before .before .before .before .args .t2) (c .before .before .before .before .before .before .before .before .before .before .before .loop .i) (Send 0 0 0 0 0)) (inside (c .before .before .before .before .before .before .before))), (bounds _ (c .before .before .before .before .before .before .before .before .before .before .before .loop .inv .unbroken)) .actorIn8 _ (c .before .before .view-of .ensures .1))
+actor-of-requires c κs = (actor-low (machine-in (c .before .before .before .before .before .before)) (bounds-in (c .before .before .before .before .before .before)) (about-in (c .before .before .before .before .before .before)) (inside (c .before .before .before .before .before .before)), bounds-in (c .before .before .before .before .before .before) .actorIn8 _ (c .before .before .view-of .ensures .1))
 
 store-of-requires : tie.Need-store-of-requires Inv-loop μ-loop
-store-of-requires c κs = (rw (c .before .before .before .before .before .before .before .about-of .ensures) (store-low _ (bounds _ (c .before .before .before .before .before .before .before .before .before .before .before .before .loop .inv .unbroken)) (getD (c .before .before .before .before .before .before .before .before .before .before .before .before .before .before .before .args .t2) (c .before .before .before .before .before .before .before .before .before .before .before .before .loop .i) (Send 0 0 0 0 0)) (inside (c .before .before .before .before .before .before .before .before))), (bounds _ (c .before .before .before .before .before .before .before .before .before .before .before .before .loop .inv .unbroken)) .storeIn8 _ (c .before .before .before .view-of .ensures .1), (bounds _ (c .before .before .before .before .before .before .before .before .before .before .before .before .loop .inv .unbroken)) .destinationIn8 _ (c .before .before .before .view-of .ensures .1))
+store-of-requires c κs = (store-low (machine-in (c .before .before .before .before .before .before .before)) (bounds-in (c .before .before .before .before .before .before .before)) (about-in (c .before .before .before .before .before .before .before)) (inside (c .before .before .before .before .before .before .before)), bounds-in (c .before .before .before .before .before .before .before) .storeIn8 _ (c .before .before .before .view-of .ensures .1), bounds-in (c .before .before .before .before .before .before .before) .destinationIn8 _ (c .before .before .before .view-of .ensures .1))
 
 mul-o : tie.Need-mul-o Inv-loop μ-loop
 mul-o c = search needs
@@ -228,7 +242,7 @@ cast-t68 : tie.Need-cast-t68 Inv-loop μ-loop
 cast-t68 c = search needs
 
 element-copy-out-t97 : tie.Need-element-copy-out-t97 Inv-loop μ-loop
-element-copy-out-t97 c = rw (about-at (c .before .before .before) .about-of .ensures) (other-low _ (bounds _ (turn-at (c .before .before .before) .loop .inv .unbroken)) (getD (start-at (c .before .before .before) .args .t2) (turn-at (c .before .before .before) .loop .i) (Send 0 0 0 0 0)) (inside (inside-at (c .before .before .before))))
+element-copy-out-t97 c = other-low (machine-in (inside-at (c .before .before .before))) (bounds-in (inside-at (c .before .before .before))) (about-in (inside-at (c .before .before .before))) (inside (inside-at (c .before .before .before)))
 
 element-copy-out-t101 : tie.Need-element-copy-out-t101 Inv-loop μ-loop
 element-copy-out-t101 c = search needs
@@ -333,7 +347,7 @@ loop-less-2 : tie.Need-loop-less-2 Inv-loop μ-loop
 loop-less-2 c = omega (arith, test-at (joined-at c) .loop-test .taken)
 
 loop-again-2 : tie.Need-loop-again-2 Inv-loop μ-loop
-loop-again-2 c = rw (c .made-of .ensures) (take-step (turn-at (joined-at c) .loop .inv) (test-at (joined-at c) .loop-test .taken) _ (written (found (joined-at c)) (rule-at c .rule .result) (rule-at c .rule .ensures _ (stands (found (joined-at c)) (inside (inside-at (joined-at c)))))))
+loop-again-2 c = rw (c .made-of .ensures) (take-step (turn-at (joined-at c) .loop .inv) (test-at (joined-at c) .loop-test .taken) _ (written (found (joined-at c)) (rule-at c .rule .result) (rule-at c .rule .ensures _ (stands (found (joined-at c)) (turn-at (joined-at c) .loop .inv .unbroken) (inside (inside-at (joined-at c)))))))
 
 sub-t141 : tie.Need-sub-t141 Inv-loop μ-loop
 sub-t141 c = omega (arith, c .before .loop .inv .some)
@@ -359,13 +373,13 @@ steps-unbroken-spec =
     loop-holds
     mul-s
     array-copy-out-s
+    about-of-requires
     names-outside-requires
     add-room
     slice-write-room
     add-i
     loop-less
     loop-again
-    about-of-requires
     cast-named
     mul-named
     element-copy-out-named

@@ -92,14 +92,14 @@ of-place-requires-5 c κs = search needs
 enum-known-s-15 : tie.Need-enum-known-s-15
 enum-known-s-15 c = search needs
 
-of-place-requires-6 : tie.Need-of-place-requires-6
-of-place-requires-6 c κs = search needs
+of-actor-requires-4 : tie.Need-of-actor-requires-4
+of-actor-requires-4 c κs = search needs
 
 enum-known-s-16 : tie.Need-enum-known-s-16
 enum-known-s-16 c = search needs
 
-of-place-requires-7 : tie.Need-of-place-requires-7
-of-place-requires-7 c κs = search needs
+of-actor-requires-5 : tie.Need-of-actor-requires-5
+of-actor-requires-5 c κs = search needs
 
 returns : tie.Need-returns
 returns c = c .looking-back .ensures ∙ sym (ap aboutOf (c .before .before .s .given .1))
@@ -144,10 +144,10 @@ returns-14 : tie.Need-returns-14
 returns-14 c = c .of-place5 .ensures ∙ sym (ap aboutOf (c .before .before .s14 .given .1))
 
 returns-15 : tie.Need-returns-15
-returns-15 c = c .of-place6 .ensures ∙ sym (ap aboutOf (c .before .before .s15 .given .1))
+returns-15 c = c .of-actor4 .ensures ∙ sym (ap aboutOf (c .before .before .s15 .given .1))
 
 returns-16 : tie.Need-returns-16
-returns-16 c = c .of-place7 .ensures ∙ sym (ap aboutOf (c .before .before .s16 .given .1))
+returns-16 c = c .of-actor5 .ensures ∙ sym (ap aboutOf (c .before .before .s16 .given .1))
 
 pub about-of-spec : {M : Type 1} → statement M
 about-of-spec =
@@ -182,9 +182,9 @@ about-of-spec =
     enum-known-s-14
     of-place-requires-5
     enum-known-s-15
-    of-place-requires-6
+    of-actor-requires-4
     enum-known-s-16
-    of-place-requires-7
+    of-actor-requires-5
     returns
     returns-2
     returns-3
