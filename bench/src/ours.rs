@@ -5,6 +5,7 @@ mod library {
         pub fn tautlichen_run(book: *const u8, size: usize, answers: *mut u8, room: usize) -> u8;
         pub fn bench_broken(book: *const u8, size: usize, at: u8, times: u32) -> u32;
         pub fn bench_walk(book: *const u8, size: usize, key: u8, at: u8, times: u32) -> u32;
+        pub fn bench_lineage(book: *const u8, size: usize, key: u8, at: u8, times: u32) -> u32;
         pub fn bench_drain(book: *const u8, size: usize, at: u8, times: u32) -> u32;
         pub fn bench_step(
             book: *const u8,
@@ -21,6 +22,7 @@ mod library {
             step_size: usize,
             times: u32,
         ) -> u32;
+        pub fn bench_receive(held: u32, last: u32, times: u32) -> u32;
     }
 }
 
@@ -40,6 +42,12 @@ pub fn broken(book: &[u8], at: u8, times: u32) -> u32 {
 pub fn walk(book: &[u8], key: u8, at: u8, times: u32) -> u32 {
     // SAFETY: as above.
     unsafe { library::bench_walk(book.as_ptr(), book.len(), key, at, times) }
+}
+
+/// How many bytes the PROV-N documents of the turns have.
+pub fn lineage(book: &[u8], key: u8, at: u8, times: u32) -> u32 {
+    // SAFETY: as above.
+    unsafe { library::bench_lineage(book.as_ptr(), book.len(), key, at, times) }
 }
 
 /// How many steps the drains of the turns took, and each time the interactions made.
@@ -62,4 +70,11 @@ pub fn step_unbroken(book: &[u8], step: &[u8], times: u32) -> u32 {
     unsafe {
         library::bench_step_unbroken(book.as_ptr(), book.len(), step.as_ptr(), step.len(), times)
     }
+}
+
+/// The numbers of the turns' messages, each of the last activity that a store of the first PReP
+/// holds, and each time how many it holds.
+pub fn receive(held: u32, last: u32, times: u32) -> u32 {
+    // SAFETY: the library takes any three numbers.
+    unsafe { library::bench_receive(held, last, times) }
 }

@@ -4,17 +4,21 @@ use std::hint::black_box;
 use std::time::{Duration, Instant};
 
 use peer::book::{self, Book, MAX_STEPS};
+use peer::lineage;
 use peer::machine::Machine;
+use peer::prep::messages::{Activity, Message, Said};
+use peer::prep::Store;
 use peer::refusal::number;
 use peer::step::{Step, KINDS};
 
 use crate::books::{self, Draft};
 use crate::ours;
 
-/// The bytes of our machine value.
-pub const MACHINE_BYTES: usize = 6756;
+/// The bytes of our machine value, and of our store of the first PReP.
+const MACHINE_BYTES: usize = 6756;
+const STORE_BYTES: usize = 3011;
 
-/// So many of the peer's machines are copied at a time: few enough to stay near the processor.
+/// So many of the peer's values are copied at a time: few enough to stay near the processor.
 const COPIES: usize = 16;
 
 /// Makes a number of turns, or with `false` all that is beside them, and says how long it took.
@@ -41,14 +45,16 @@ impl Side {
         }))
     }
 
-    /// Turns of the peer that change its machine, each on a copy; the copying takes no time.
-    fn on_copies<T>(machine: Machine, turn: impl Fn(&mut Machine) -> T + 'static) -> Side {
+    /// Turns of the peer that change its value, each on a copy; the copying takes no time.
+    fn on_copies<V, T>(value: V, turn: impl Fn(&mut V) -> T + 'static) -> Side
+    where
+        V: Clone + 'static,
+    {
         Side(Box::new(move |times, made| {
             let mut time = Duration::ZERO;
-            let copies = vec![&machine; times as usize];
+            let copies = vec![&value; times as usize];
             for batch in copies.chunks(COPIES) {
-                let mut copies: Vec<Machine> =
-                    batch.iter().map(|&machine| machine.clone()).collect();
+                let mut copies: Vec<V> = batch.iter().map(|&value| value.clone()).collect();
                 let start = Instant::now();
                 for copy in copies.iter_mut().filter(|_| made) {
                     black_box(turn(black_box(copy)));
@@ -89,8 +95,11 @@ impl Rows {
                 broken(&books::full()),
                 drain(&books::messy()),
                 walk(&books::chain()),
+                document(&books::chain()),
+                received(),
+                copies::<STORE_BYTES, _>("2004 store", store()),
             ],
-            copies: copies(books::full().machine()),
+            copies: copies::<MACHINE_BYTES, _>("machine", books::full().machine().clone()),
             tested: steps.iter().map(|(draft, step)| tested(draft, *step)).collect(),
             untested: steps.iter().map(|(draft, step)| untested(draft, *step)).collect(),
         }
@@ -154,17 +163,67 @@ fn walk(draft: &Draft) -> Row {
     }
 }
 
-/// Two copies of a value as large as our machine, and one of the peer's machine.
-fn copies(machine: &Machine) -> Row {
-    let (bytes, machine) = ([0u8; MACHINE_BYTES], machine.clone());
+/// The walk of the same key, written as a PROV-N document.
+fn document(draft: &Draft) -> Row {
+    let (bytes, machine) = (draft.bytes(), draft.machine().clone());
+    let text = |machine: &Machine| {
+        let chain = lineage::chain(machine, 15).expect("the chain is closed");
+        lineage::document(&chain)
+    };
+    let size = text(&machine).len();
+    let at = place(size as u32, |at| ours::lineage(&bytes, 15, at, 1));
     Row {
-        name: "two copies of our machine, one of the peer's".into(),
+        name: format!("the PROV-N document of that walk, {size} bytes"),
+        aim: Some(2),
+        ours: Side::looped(move |times| ours::lineage(&bytes, 15, at, times)),
+        peer: Side::plain(move || text(black_box(&machine))),
+    }
+}
+
+/// So many activities the peer's store of the first PReP holds, and ours.
+const HELD: u32 = 16;
+
+/// The client's message of an activity.
+fn message(session: u32, said: Said) -> Message {
+    let activity = Activity { session, nonce: 0, thread: 0, client: 1, service: 2 };
+    Message { sender: 1, activity, said }
+}
+
+/// A store of the first PReP with an invocation in each activity.
+fn store() -> Store {
+    let mut store = Store::default();
+    for session in 0..HELD {
+        let invocation = message(session, Said::Invocation { extra: 0, data: 7 });
+        store.take(&invocation).expect("there is room");
+    }
+    store
+}
+
+/// A message of the store's last activity, which is taken.
+fn received() -> Row {
+    let store = store();
+    let last = message(HELD - 1, Said::Negotiation { list: 0, accepted: 0, extra: 1 });
+    let taken = store.clone().take(&last).is_ok();
+    assert!(taken && ours::receive(HELD, HELD - 1, 1) == HELD, "the message is taken by both");
+    Row {
+        name: "a message of the 2004 protocol".into(),
+        aim: None,
+        ours: Side::looped(move |times| ours::receive(HELD, HELD - 1, times)),
+        peer: Side::on_copies(store, move |store| store.take(black_box(&last))),
+    }
+}
+
+/// Two copies of a value as large as ours, and one of the peer's.
+fn copies<const BYTES: usize, V: Clone + 'static>(name: &str, value: V) -> Row {
+    let bytes = [0u8; BYTES];
+    Row {
+        name: format!("two copies of our {name}, one of the peer's"),
         aim: None,
         ours: Side::plain(move || {
             let copy = *black_box(&bytes);
             *black_box(&copy)
         }),
-        peer: Side::plain(move || black_box(&machine).clone()),
+        peer: Side::plain(move || black_box(&value).clone()),
     }
 }
 

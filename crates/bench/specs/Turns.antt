@@ -1,7 +1,7 @@
 -- A call made turn after turn, on a machine after a book, and what is told of the turns: a sum.
 use Prim.Native.Nat.{ℕ, zero, suc, _+_, _%_, _^_}
 use mathlib.Core.List.{List}
-use lib.ListN.{set}
+use lib.ListN.{set, replicate}
 use Rattle.protocol.specs.Words.{one}
 use Rattle.protocol.specs.Writes.{withAcks}
 use Rattle.protocol.specs.Broken.{brokenOf}
@@ -11,6 +11,7 @@ use Rattle.protocol.specs.Step.{stepOf}
 use Rattle.protocol.specs.Run.{runOf}
 use Rattle.protocol.specs.Drain.{drainOf}
 use Rattle.protocol.specs.Walk.{walkOf}
+use Rattle.protocol.specs.Provn.{provnOf}
 
 -- the machine after a book
 abbrev pub after : List ℕ → State
@@ -38,6 +39,10 @@ brokenTold m = one (brokenOf m)
 
 abbrev pub walkTold : ℕ → State → ℕ
 walkTold key m = walkOf m key .count
+
+-- .. of a document, written into a buffer that has room for the longest
+abbrev pub lineageTold : ℕ → State → ℕ
+lineageTold key m = provnOf m key (replicate 6247 0) .len
 
 abbrev pub drainTold : State → ℕ
 drainTold m = drainOf m .count + drainOf m .state .made

@@ -3,19 +3,23 @@
 // A machine is no argument of a call from Rust, so each function makes its own by running a book, then makes one call
 // turn after turn; bench/ takes off the time of a call with no turns. A turn of a step or a drain is the call by value
 // and nothing more that counts: one number of the machine that comes back is read where it lies. The acks in flight at
-// a place are 1 and 2 by turns, so that what one turn found of the machine can't be kept for the next.
+// a place are 1 and 2 by turns, so that what one turn found of the machine can't be kept for the next. Nor is a store of
+// the first PReP an argument: it is made by receiving (received.rt).
 ghost use mathlib.Core.Path.{_≡_};
 ghost use mathlib.Core.Bool.{false};
 ghost use Prim.Native.Nat.{_+_, _%_};
 ghost use Rattle.protocol.specs.Words.{pick, one};
 ghost use Rattle.protocol.specs.Broken.{brokenOf};
 ghost use Rattle.protocol.specs.Book.{onRead, readStep};
-ghost use Rattle.bench.specs.Turns.{after, turns, summed, turn, brokenTold, walkTold, drainTold, stepTold};
+ghost use Rattle.bench.specs.Received.{negotiation, filled, receiveTold};
+ghost use Rattle.bench.specs.Turns.{after, turns, summed, turn, brokenTold, walkTold, lineageTold, drainTold, stepTold};
 use machine::Machine;
 use protocol::Read;
 use protocol::State;
 use protocol::Step;
 use runs::reader;
+
+mod received;
 
 // The machine after a book of at most 4,096 steps.
 fn after(book: &[u8]) -> State
@@ -70,6 +74,23 @@ fn walk_turns(from: State, key: u8, at: u8, times: u32) -> u32
         m.acks[at as usize] = acks(left);
         let walked = walk::walk(m, key);
         sum = std::num::wrapping_add_u32(sum, walked.count as u32);
+        left -= 1;
+    }
+    sum
+}
+
+// A turn writes the document into an array of its own, which has room for the longest.
+fn lineage_turns(from: State, key: u8, at: u8, times: u32) -> u32
+    ensures { λ r. ⌜ r ≡ turns (turn (lineageTold key) at) times (from, 0) .1 ⌝ }
+{
+    let mut m = from;
+    let mut sum: u32 = 0;
+    let mut left = times;
+    while 0 < left {
+        m.acks[at as usize] = acks(left);
+        let mut text = [0u8; 6247];
+        let written = provn::write(m, key, &mut text);
+        sum = std::num::wrapping_add_u32(sum, written.len as u32);
         left -= 1;
     }
     sum
@@ -136,6 +157,14 @@ pub extern "C" fn bench_walk(book: &[u8], key: u8, at: u8, times: u32) -> u32
     walk_turns(after(book), key, at, times)
 }
 
+// The bytes of the turns' PROV-N documents, counted.
+#[no_mangle]
+pub extern "C" fn bench_lineage(book: &[u8], key: u8, at: u8, times: u32) -> u32
+    ensures { λ r. ⌜ r ≡ turns (turn (lineageTold key) at) times (after (now (book .entry)), 0) .1 ⌝ }
+{
+    lineage_turns(after(book), key, at, times)
+}
+
 // The steps that the turns' drains took, and the interactions of each machine, counted.
 #[no_mangle]
 pub extern "C" fn bench_drain(book: &[u8], at: u8, times: u32) -> u32
@@ -169,4 +198,13 @@ pub extern "C" fn bench_step_unbroken(book: &[u8], step: &[u8], times: u32) -> u
         Read::Bad => 0,
         Read::Got(s, _) => unbroken_turns(m, s, times),
     }
+}
+
+// The numbers of the turns' messages, and the activities of each store, summed: each message is the last activity's, in a
+// store that holds so many.
+#[no_mangle]
+pub extern "C" fn bench_receive(held: u32, last: u32, times: u32) -> u32
+    ensures { λ r. ⌜ r ≡ turns (λ left sum. summed sum (receiveTold (negotiation last left) (filled held))) times 0 ⌝ }
+{
+    received::turns(received::filled(held), last, times)
 }

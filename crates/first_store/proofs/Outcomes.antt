@@ -1,34 +1,61 @@
--- What is answered in each case of the rule: nobody's message, no place, no room, and taken. Assumes nothing.
-use Prim.Native.Nat.{_≤_, _<_}
-use mathlib.Core.Path.{_≡_, sym, ap, _∙_}
-use mathlib.Core.Bool.{Bool, true, false}
-use borrow.Author.Tests.{le-leb, lt-leb}
+-- What is answered in each case of the rule: refused, or taken with each part of the answer. Assumes nothing.
+use Prim.Native.Nat.{ℕ, _+_, _<_}
+use mathlib.Core.Path.{_≡_, refl, ap}
+use mathlib.Core.Bool.{Bool, true, false, _&&_, _||_, not, cond}
+use native.Mathlib.Omega.{arith}
+use lib.Dec.{leb, ltb}
+use lib.ListN.{set}
+use borrow.Author.Tests.{leb-false}
 use Rattle.activities.specs.Activity.{neither}
 use Rattle.activities.specs.Side.{full}
-use Rattle.activities.specs.Store.{placeOf, exchangeOf}
-use Rattle.activities.specs.Receive.{sideOf, noRoom, refused, accepted, receive}
+use Rattle.activities.specs.Complete.{complete}
+use Rattle.activities.specs.Store.{placeOf, exchangeOf, written}
+use Rattle.activities.specs.Receive.{sideOf, exchangeTaken, noRoom, ackOf, completes, toBoth, refused, accepted, receive}
 use Rattle.activities.specs.declared.Message.{Message}
-use Rattle.activities.specs.declared.Side.{Side}
 use Rattle.activities.specs.declared.Exchange.{Exchange}
 use Rattle.activities.specs.declared.Store.{Store}
+use Rattle.activities.specs.declared.Ack.{Ack}
+use Rattle.activities.specs.declared.Finishing.{Finishing}
+use Rattle.activities.specs.declared.Received.{Received}
 
-module _ (s : Store) (m : Message) where
-  pub by-neither : neither m ≡ true → refused 17 s ≡ receive s m
-  unfolding receive
-  by-neither n = rw n
+-- 0 is answered where no test says no
+nothing-said : (p q r : Bool) {no : ℕ} → no ≡ cond p 17 (cond (q || r) 18 0) → no ≡ 0 → (p ≡ false) × (q ≡ false) × (r ≡ false)
+nothing-said true q r e z = absurd (omega (arith, e, z))
+nothing-said false true r e z = absurd (omega (arith, e, z))
+nothing-said false false true e z = absurd (omega (arith, e, z))
+nothing-said false false false e z = (refl, refl, refl)
 
-  pub no-place : neither m ≡ false → 16 ≤ placeOf s (m .activity) → refused 18 s ≡ receive s m
+-- another number is that of a refusal
+number-said : (s : Store) (r : Received) (p q : Bool) {no : ℕ} → no ≡ cond p 17 (cond q 18 0) → (no ≡ 0 → ⊥) → refused no s ≡ cond p (refused 17 s) (cond q (refused 18 s) r)
+number-said s r true q e h = ap (λ (k : ℕ). refused k s) e
+number-said s r false true e h = ap (λ (k : ℕ). refused k s) e
+number-said s r false false e h = absurd (h e)
+
+-- the place and the rows that were found, with the number by their tests
+pub record Looked (s : Store) (m : Message) (at : ℕ) (e : Exchange) (no : ℕ) : Type 0 where
+  pub place : at ≡ placeOf s (m .activity)
+  pub rows : e ≡ exchangeOf s (m .activity)
+  pub number : no ≡ cond (neither m) 17 (cond (leb 16 at || full (sideOf e m) (m .said)) 18 0)
+
+module _ {s : Store} {m : Message} {at : ℕ} {e : Exchange} {no : ℕ} (l : Looked s m at e no) where
+  pub refused-so : (no ≡ 0 → ⊥) → refused no s ≡ receive s m
   unfolding receive noRoom
-  no-place n h = rw (n, le-leb 16 (placeOf s (m .activity)) h)
+  refused-so h = number-said s (accepted s m) (neither m) (noRoom s m) (rw (l .place, l .rows) at (l .number)) h
 
-  pub no-room : neither m ≡ false → placeOf s (m .activity) < 16 → full (sideOf (exchangeOf s (m .activity)) m) (m .said) ≡ true → refused 18 s ≡ receive s m
-  unfolding receive noRoom
-  no-room n h f = rw (n, lt-leb 16 (placeOf s (m .activity)) h, f)
+  module _ (z : no ≡ 0) where
+    said : (neither m ≡ false) × (leb 16 at ≡ false) × (full (sideOf e m) (m .said) ≡ false)
+    said = nothing-said (neither m) (leb 16 at) (full (sideOf e m) (m .said)) (l .number) z
 
-  pub taken : neither m ≡ false → placeOf s (m .activity) < 16 → full (sideOf (exchangeOf s (m .activity)) m) (m .said) ≡ false → accepted s m ≡ receive s m
-  unfolding receive noRoom
-  taken n h f = rw (n, lt-leb 16 (placeOf s (m .activity)) h, f)
+    pub has-place : at < 16
+    has-place = leb-false 16 at (said .1)
 
-  -- the test for room in the rows that were found is the test in the activity's own
-  pub told : {e : Exchange} {x : Side} {r t : Bool} → e ≡ exchangeOf s (m .activity) → x ≡ sideOf e m → r ≡ full x (m .said) → r ≡ t → full (sideOf (exchangeOf s (m .activity)) m) (m .said) ≡ t
-  told he hx hr ht = ap (λ (y : Exchange). full (sideOf y m) (m .said)) (sym he) ∙ (ap (λ (y : Side). full y (m .said)) (sym hx) ∙ (sym hr ∙ ht))
+    pub has-room : full (sideOf e m) (m .said) ≡ false
+    has-room = said .2
+
+    pub taken-so : {used : ℕ} {after : Exchange} {ack : Ack} {finished : Finishing} {now : Bool}
+        → after ≡ exchangeTaken e m → used ≡ cond (ltb at (s .used)) (s .used) (at + 1) → ack ≡ ackOf (m .said)
+        → now ≡ (complete after && not (complete e)) → finished ≡ toBoth now
+        → record { store = record { used = used; exchanges = set (s .exchanges) at after }; answer = 0; ack = ack; finished = finished } ≡ receive s m
+    unfolding receive noRoom written completes
+    taken-so ha hu hk hn hf =
+        simp (hf, hn, hk, hu, ha, said .0, rw (l .place) at (said .1), rw (l .rows) at (said .2), l .rows, l .place)

@@ -1,23 +1,20 @@
-// What is answered to one message, and the store with it.
+// What is answered to one message, and both rows with it.
 ghost use mathlib.Core.Path.{_≡_};
-ghost use mathlib.Core.Bool.{false};
-ghost use Prim.Native.Nat.{ℕ, _<_};
-ghost use Rattle.activities.specs.Activity.{byClient, neither};
+ghost use mathlib.Core.Bool.{false, _||_, cond};
+ghost use lib.Dec.{leb};
+ghost use Rattle.activities.specs.Activity.{neither};
 ghost use Rattle.activities.specs.Side.{full as fullOf};
-ghost use Rattle.activities.specs.Store.{placeOf, exchangeOf, written as writtenOf};
-ghost use Rattle.activities.specs.Receive.{sideOf, exchangeTaken, ackOf, toBoth, refused as refusedOf, accepted as acceptedOf};
+ghost use Rattle.activities.specs.Receive.{sideOf, exchangeTaken, ackOf, toBoth};
 use super::rows;
 use activities::Ack;
 use activities::Exchange;
 use activities::Finishing;
 use activities::Message;
-use activities::Received;
 use activities::Said;
 use activities::Side;
-use activities::Store;
 
 // The submission finished acknowledgement goes to both sides or to none.
-fn to_both(now: bool) -> Finishing
+pub(crate) fn to_both(now: bool) -> Finishing
     ensures { λ r. ⌜ r ≡ toBoth now ⌝ }
 {
     Finishing {
@@ -26,19 +23,7 @@ fn to_both(now: bool) -> Finishing
     }
 }
 
-// Nothing changed, nothing acknowledged.
-pub(crate) fn refused(s: Store, number: u8) -> Received
-    ensures { λ r. ⌜ r ≡ refusedOf number s ⌝ }
-{
-    Received {
-        store: s,
-        answer: number,
-        ack: Ack::NoAck,
-        finished: to_both(false),
-    }
-}
-
-fn ack(said: Said) -> Ack
+pub(crate) fn ack(said: Said) -> Ack
     ensures { λ r. ⌜ r ≡ ackOf said ⌝ }
 {
     match said {
@@ -54,7 +39,7 @@ fn ack(said: Said) -> Ack
     }
 }
 
-pub(crate) fn by_neither(m: Message) -> bool
+fn by_neither(m: Message) -> bool
     ensures { λ r. ⌜ r ≡ neither m ⌝ }
 {
     let a = m.activity;
@@ -65,7 +50,7 @@ pub(crate) fn by_neither(m: Message) -> bool
 }
 
 // The row that the message is for.
-pub(crate) fn side(e: Exchange, m: Message) -> Side
+fn side(e: Exchange, m: Message) -> Side
     ensures { λ r. ⌜ r ≡ sideOf e m ⌝ }
 {
     let a = m.activity;
@@ -76,7 +61,7 @@ pub(crate) fn side(e: Exchange, m: Message) -> Side
 }
 
 // Both rows with the message.
-fn taken(e: Exchange, m: Message) -> Exchange
+pub(crate) fn taken(e: Exchange, m: Message) -> Exchange
     requires { ⌜ fullOf (sideOf e m) (m .said) ≡ false ⌝ }
     ensures { λ r. ⌜ r ≡ exchangeTaken e m ⌝ }
 {
@@ -92,35 +77,19 @@ fn taken(e: Exchange, m: Message) -> Exchange
     y
 }
 
-// The store with both rows at their place.
-fn written(s: Store, at: usize, e: Exchange) -> Store
-    requires { ⌜ at < 16 ⌝ }
-    ensures { λ r. ⌜ r ≡ writtenOf s at e ⌝ }
+// 17 for a sender that is neither, then 18 where there is no place or no room; else 0.
+pub(crate) fn refusal(at: usize, e: Exchange, m: Message) -> u8
+    ensures { λ r. ⌜ r ≡ cond (neither m) 17 (cond (leb 16 at || fullOf (sideOf e m) (m .said)) 18 0) ⌝ }
 {
-    let mut x = s;
-    x.exchanges[at] = e;
-    if at < s.used as usize {
-        return x;
+    if by_neither(m) {
+        return 17;
     }
-    x.used = at as u8 + 1;
-    x
-}
-
-pub(crate) fn accepted(s: Store, at: usize, e: Exchange, m: Message) -> Received
-    requires { ⌜ at ≡ placeOf s (m .activity) ⌝ }
-    requires { ⌜ at < 16 ⌝ }
-    requires { ⌜ e ≡ exchangeOf s (m .activity) ⌝ }
-    requires { ⌜ fullOf (sideOf e m) (m .said) ≡ false ⌝ }
-    ensures { λ r. ⌜ r ≡ acceptedOf s m ⌝ }
-{
+    if 16 <= at {
+        return 18;
+    }
     let said = m.said;
-    let after = taken(e, m);
-    let now = rows::completes(e, after);
-    let x = written(s, at, after);
-    Received {
-        store: x,
-        answer: 0,
-        ack: ack(said),
-        finished: to_both(now),
+    if rows::full(side(e, m), said) {
+        return 18;
     }
+    0
 }

@@ -1,12 +1,13 @@
-// Where an activity stands.
+// An activity, its two rows and how many there are.
 ghost use mathlib.Core.Path.{_≡_};
-ghost use Prim.Native.Nat.{ℕ, _<_, min};
+ghost use mathlib.Core.Bool.{cond};
+ghost use Prim.Native.Nat.{_+_, _<_, min};
+ghost use lib.Dec.{ltb};
 ghost use Rattle.activities.specs.Activity.{same as sameOf};
-ghost use Rattle.activities.specs.Store.{fresh as freshOf, blank as blankOf, placeOf, exchangeOf};
+ghost use Rattle.activities.specs.Store.{fresh as freshOf, blank as blankOf};
 use super::rows;
 use activities::Activity;
 use activities::Exchange;
-use activities::Store;
 
 pub(crate) fn blank() -> Activity
     ensures { λ r. ⌜ r ≡ blankOf ⌝ }
@@ -50,7 +51,7 @@ pub(crate) fn same(a: Activity, b: Activity) -> bool
 }
 
 // How many activities a store holds.
-fn held(used: u8) -> usize
+pub(crate) fn held(used: u8) -> usize
     ensures { λ r. ⌜ r ≡ min used 16 ⌝ }
 {
     if 16 < used {
@@ -59,30 +60,23 @@ fn held(used: u8) -> usize
     used as usize
 }
 
-// The place of an activity, or how many there are.
-pub(crate) fn place(s: Store, a: Activity) -> usize
-    ensures { λ r. ⌜ r ≡ placeOf s a ⌝ }
+// Both rows of an activity: those that stand at its place, or new ones where it isn't held.
+pub(crate) fn exchange(known: bool, there: Exchange, a: Activity) -> Exchange
+    ensures { λ r. ⌜ r ≡ cond known there (freshOf a) ⌝ }
 {
-    let n = held(s.used);
-    let mut i: usize = 0;
-    while i < n {
-        let e = s.exchanges[i];
-        if same(e.activity, a) {
-            return i;
-        }
-        i += 1;
-    }
-    i
-}
-
-// Both rows of an activity, at its place.
-pub(crate) fn exchange(s: Store, at: usize, a: Activity) -> Exchange
-    requires { ⌜ at ≡ placeOf s a ⌝ }
-    requires { ⌜ at < 16 ⌝ }
-    ensures { λ r. ⌜ r ≡ exchangeOf s a ⌝ }
-{
-    if at < s.used as usize {
-        return s.exchanges[at];
+    if known {
+        return there;
     }
     fresh(a)
+}
+
+// How many activities a store says to hold, with one at this place.
+pub(crate) fn used(at: usize, before: u8) -> u8
+    requires { ⌜ at < 16 ⌝ }
+    ensures { λ r. ⌜ r ≡ cond (ltb at before) before (at + 1) ⌝ }
+{
+    if at < before as usize {
+        return before;
+    }
+    at as u8 + 1
 }

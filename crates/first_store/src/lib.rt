@@ -1,9 +1,9 @@
 // The first PReP's provenance store: one message is received by value, and back come the store and what is answered.
 ghost use mathlib.Core.Path.{_≡_};
-ghost use Prim.Native.Nat.{ℕ, _≤_, _<_, min};
 ghost use Rattle.activities.specs.Store.{emptyStore};
 ghost use Rattle.activities.specs.Complete.{complete as completeOf};
 ghost use Rattle.activities.specs.Receive.{receive as receiveOf};
+use activities::Ack;
 use activities::Exchange;
 use activities::Message;
 use activities::Received;
@@ -31,21 +31,43 @@ pub fn complete(e: Exchange) -> bool
     rows::complete(e)
 }
 
-// One message: refused, or put where it belongs and acknowledged.
+// One message: refused, or put where it belongs and acknowledged. The store is read and written where it stands: it is handed
+// to no other function, so that a call copies it twice, in and out.
 pub fn receive(s: Store, m: Message) -> Received
     ensures { λ r. ⌜ r ≡ receiveOf s m ⌝ }
 {
-    if answer::by_neither(m) {
-        return answer::refused(s, 17);
-    }
-    let at = find::place(s, m.activity);
-    if 16 <= at {
-        return answer::refused(s, 18);
-    }
-    let e = find::exchange(s, at, m.activity);
+    let mut x = s;
+    let a = m.activity;
     let said = m.said;
-    if rows::full(answer::side(e, m), said) {
-        return answer::refused(s, 18);
+    let n = find::held(x.used);
+    let mut at: usize = 0;
+    let mut end = n;
+    while at < end {
+        let e = x.exchanges[at];
+        if find::same(e.activity, a) {
+            end = at;
+        } else {
+            at += 1;
+        }
     }
-    answer::accepted(s, at, e, m)
+    let there = x.exchanges[at % 16];
+    let e = find::exchange(at < n, there, a);
+    let no = answer::refusal(at, e, m);
+    if no != 0 {
+        return Received {
+            store: x,
+            answer: no,
+            ack: Ack::NoAck,
+            finished: answer::to_both(false),
+        };
+    }
+    let after = answer::taken(e, m);
+    x.exchanges[at] = after;
+    x.used = find::used(at, x.used);
+    Received {
+        store: x,
+        answer: 0,
+        ack: answer::ack(said),
+        finished: answer::to_both(rows::completes(e, after)),
+    }
 }

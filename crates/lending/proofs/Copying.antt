@@ -1,5 +1,5 @@
 -- The loop that copies the first bytes of one list over another's: so many are over, and the others stay. Assumes nothing.
-use Prim.Native.Nat.{ℕ, _+_, _≤_, _<_}
+use Prim.Native.Nat.{ℕ, _+_, _≤_, _<_, min}
 use mathlib.Core.Path.{_≡_, refl, sym, ap, _∙_}
 use mathlib.Core.List.{List}
 use native.Mathlib.Numerals.{add-one}
@@ -31,8 +31,13 @@ module _ {from to₀ : List ℕ} {n : ℕ} {to : List ℕ} {i : ℕ} (h : Copied
         same = simp (h .same, add-one, zero-add) (simp zero-add at (paste-suc to₀ 0 from i 0 (omega arith) (omega arith)));
       }
 
-  pub copied-all : n ≤ i → to ≡ over (take n from) to₀
-  copied-all b = h .same ∙ ap (paste to₀ 0 from) (le-antisymm (h .low) b) ∙ sym (over-take from to₀ n (fits .0))
+  pub copied-all : n ≤ i → {end : ℕ} → n ≡ end → to ≡ over (take end from) to₀
+  copied-all b e =
+      h .same ∙ ap (paste to₀ 0 from) (le-antisymm (h .low) b) ∙ sym (over-take from to₀ n (fits .0)) ∙ ap (λ (k : ℕ). over (take k from) to₀) e
+
+-- where there is room for all
+pub whole : (from to : List ℕ) (n : ℕ) → n ≤ length to → over (take (min n (length to)) from) to ≡ over (take n from) to
+whole from to n h = let all : min n (length to) ≡ n = omega arith in ap (λ (k : ℕ). over (take k from) to) all
 
 -- 14 exactly where the bytes are more than the buffer has
 pub too-short : (from to : List ℕ) (n : ℕ) → n ≤ length from → length to < n → 14 ≡ shortNo (take n from) to

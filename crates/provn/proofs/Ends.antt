@@ -1,7 +1,7 @@
 -- The ends of the call: the walk's refusal, a buffer that is too short, or the document of the walk's chain. Assumes nothing.
-use Prim.Native.Nat.{ℕ, zero, suc, _≤_}
-use mathlib.Core.Path.{_≡_, refl, ap, _∙_}
-use mathlib.Core.List.{List, [], _∷_, map}
+use Prim.Native.Nat.{ℕ, _≤_}
+use mathlib.Core.Path.{_≡_, ap, _∙_}
+use mathlib.Core.List.{List}
 use lib.ListN.{length, take}
 use borrow.Author.Tests.{ne-eqb}
 use Rattle.protocol.specs.Walk.{walkOf}
@@ -10,16 +10,10 @@ use Rattle.protocol.specs.Lent.{lent, shortNo, over}
 use Rattle.protocol.specs.Provn.{textOf, linesOf, provnNo, provnText, provnOf, provnBuffer}
 use Rattle.protocol.specs.declared.State.{State}
 use Rattle.protocol.specs.declared.Walked.{Walked}
-use Rattle.protocol.specs.declared.Interaction.{Interaction}
 use Rattle.protocol.specs.declared.Written.{Written}
 use Rattle.reaches.proofs.Laws.{keys-few}
 use Rattle.chains.proofs.Laws.{longest}
-use Rattle.provn.specs.Chain.{statedIn}
-
-take-map : {A B : Type 0} (f : A → B) (n : ℕ) (l : List A) → take n (map f l) ≡ map f (take n l)
-take-map f zero l = refl
-take-map f (suc n) [] = refl
-take-map f (suc n) (x ∷ l) = ap (λ (r : List _). f x ∷ r) (take-map f n l)
+use Rattle.provn.specs.Chain.{chainIn}
 
 -- what the walk and the chain after it give
 pub record Walks (m : State) (k : ℕ) (w : Walked) : Type 0 where
@@ -29,15 +23,12 @@ module _ {m : State} {k : ℕ} {w : Walked} (p : Walks m k w) where
   number : w .answer ≡ walkOf m k .answer
   number = ap (λ (x : Walked). x .answer) (p .walk)
 
-  module _ (met : List Interaction) (e : met ≡ map (statedIn (m .views)) (w .keys)) where
-    pub chain-same : take (w .count) met ≡ chainOf m k
-    unfolding chainOf
-    chain-same =
-        ap (take (w .count)) e ∙ take-map (statedIn (m .views)) (w .count) (w .keys)
-        ∙ ap (λ (x : Walked). map (statedIn (m .views)) (take (x .count) (x .keys))) (p .walk)
+  pub chain-same : chainIn (m .views) (take (w .count) (w .keys)) ≡ chainOf m k
+  unfolding chainOf
+  chain-same = ap (λ (x : Walked). chainIn (m .views) (take (x .count) (x .keys))) (p .walk)
 
-    pub fits : (w .count ≤ 16) × (length (textOf (linesOf (take (w .count) met))) ≤ 6247)
-    fits = (keys-few m k w (p .walk), rw chain-same (longest m k))
+  pub fits : (w .count ≤ 16) × (length (textOf (linesOf (chainIn (m .views) (take (w .count) (w .keys))))) ≤ 6247)
+  fits = (keys-few m k w (p .walk), rw chain-same (longest m k))
 
   module _ (buffer : List ℕ) where
     pub walk-refused : (w .answer ≡ 0 → ⊥) → (record { answer = w .answer; len = 0 } ≡ provnOf m k buffer) × (buffer ≡ provnBuffer m k buffer)

@@ -7,17 +7,17 @@ use mathlib.Core.List.{List, [], _∷_, _++_, append-assoc, map}
 use native.Mathlib.Numerals.{add-one}
 use native.Mathlib.Nat.{add-zero, zero-add}
 use native.Mathlib.Omega.{arith}
-use lib.ListN.{length, getD, set, take, drop, replicate, length-set, length-take, length-map, length-replicate, drop-of-length-le, List·getD-map}
-use lib.Seq.{drop-cons, sets, sets-eq, slice, slice-cons, take-append-seam, ext-getD}
+use lib.ListN.{length, getD, set, take, drop, replicate, length-set, length-take, length-replicate, drop-of-length-le}
+use lib.Seq.{drop-cons, sets, sets-eq, slice, slice-cons, take-append-seam}
 use borrow.Author.Tests.{lt-ltb, le-ltb}
-use Rattle.protocol.specs.Words.{bit, table}
+use Rattle.protocol.specs.Words.{bit}
 use Rattle.protocol.specs.Listing.{decimal, glyph}
 use Rattle.protocol.specs.Provn.{Line, entity, activity, wasGeneratedBy, used, wasDerivedFrom, bytes, wordsOf, lineText, textOf}
 use Rattle.protocol.specs.Provn.{entities, activities, derivations, relations, linesOf}
+use Rattle.protocol.specs.declared.View.{View}
 use Rattle.protocol.specs.declared.Interaction.{Interaction}
-use Rattle.unbroken.proofs.Laws.Every.{length-table, table-at}
 use Rattle.provn.specs.Sheet.{Sheet, sheet, putOf, wrote, Writes}
-use Rattle.provn.specs.Chain.{noInteraction}
+use Rattle.provn.specs.Chain.{statedIn, chainIn}
 
 pub wrote-append : (s : Sheet) (xs ys : List ℕ) → wrote s (xs ++ ys) ≡ wrote (wrote s xs) ys
 unfolding wrote
@@ -95,31 +95,40 @@ unfolding textOf
 text-append [] ys = refl
 text-append (x ∷ xs) ys = ap (λ (l : List ℕ). lineText x ++ l) (text-append xs ys) ∙ sym (append-assoc (lineText x) (textOf xs) (textOf ys))
 
+pub entities-keys : (views : List View) (keys : List ℕ) → map entity keys ≡ entities (chainIn views keys)
+unfolding entities
+entities-keys views [] = refl
+entities-keys views (k ∷ keys) = ap (λ (l : List Line). entity k ∷ l) (entities-keys views keys)
+
 -- the turns of the loops over a chain, and of the loop over the causes of an interaction
-module _ (chain : List Interaction) (n i : ℕ) (h : i < n) (k : n ≤ length chain) where
-  next : slice i n chain ≡ getD chain i noInteraction ∷ slice (i + 1) n chain
-  next = rw add-one (slice-cons i n chain noInteraction h k)
+module _ (keys : List ℕ) (n i : ℕ) (h : i < n) (k : n ≤ length keys) where
+  next : slice i n keys ≡ getD keys i 0 ∷ slice (i + 1) n keys
+  next = rw add-one (slice-cons i n keys 0 h k)
 
-  pub entities-turn : textOf (entities (slice i n chain)) ≡ lineText (entity (getD chain i noInteraction .key)) ++ textOf (entities (slice (i + 1) n chain))
-  unfolding textOf entities
-  entities-turn = ap (λ (l : List Interaction). textOf (entities l)) next
+  pub entities-turn : textOf (map entity (slice i n keys)) ≡ lineText (entity (getD keys i 0)) ++ textOf (map entity (slice (i + 1) n keys))
+  unfolding textOf
+  entities-turn = ap (λ (l : List ℕ). textOf (map entity l)) next
 
-  pub declared-turn : (flags : List Bool) → getD flags (getD chain i noInteraction .sender) false ≡ true
-      → textOf (activities flags (slice i n chain)) ≡ textOf (activities flags (slice (i + 1) n chain))
-  unfolding activities
-  declared-turn flags t = ap (λ (l : List Interaction). textOf (activities flags l)) next ∙ simp t
+  module _ (views : List View) {met : Interaction} (read : met ≡ statedIn views (getD keys i 0)) where
+    next-met : chainIn views (slice i n keys) ≡ met ∷ chainIn views (slice (i + 1) n keys)
+    next-met = ap (chainIn views) next ∙ ap (λ (x : Interaction). x ∷ chainIn views (slice (i + 1) n keys)) (sym read)
 
-  pub activities-turn : (flags : List Bool) → getD flags (getD chain i noInteraction .sender) false ≡ false
-      → textOf (activities flags (slice i n chain))
-      ≡ lineText (activity (getD chain i noInteraction .sender)) ++ textOf (activities (set flags (getD chain i noInteraction .sender) true) (slice (i + 1) n chain))
-  unfolding textOf activities
-  activities-turn flags t = ap (λ (l : List Interaction). textOf (activities flags l)) next ∙ simp t
+    pub declared-turn : (flags : List Bool) → getD flags (met .sender) false ≡ true
+        → textOf (activities flags (chainIn views (slice i n keys))) ≡ textOf (activities flags (chainIn views (slice (i + 1) n keys)))
+    unfolding activities
+    declared-turn flags t = ap (λ (l : List Interaction). textOf (activities flags l)) next-met ∙ simp t
 
-  pub relations-turn : textOf (relations (slice i n chain))
-      ≡ (lineText (wasGeneratedBy (getD chain i noInteraction .key) (getD chain i noInteraction .sender)) ++ textOf (derivations (getD chain i noInteraction) 16 0))
-      ++ textOf (relations (slice (i + 1) n chain))
-  unfolding textOf relations
-  relations-turn = ap (λ (l : List Interaction). textOf (relations l)) next ∙ simp (text-append, append-assoc)
+    pub activities-turn : (flags : List Bool) → getD flags (met .sender) false ≡ false
+        → textOf (activities flags (chainIn views (slice i n keys)))
+        ≡ lineText (activity (met .sender)) ++ textOf (activities (set flags (met .sender) true) (chainIn views (slice (i + 1) n keys)))
+    unfolding textOf activities
+    activities-turn flags t = ap (λ (l : List Interaction). textOf (activities flags l)) next-met ∙ simp t
+
+    pub relations-turn : textOf (relations (chainIn views (slice i n keys)))
+        ≡ (lineText (wasGeneratedBy (met .key) (met .sender)) ++ textOf (derivations (statedIn views (met .key)) 16 0))
+        ++ textOf (relations (chainIn views (slice (i + 1) n keys)))
+    unfolding textOf relations
+    relations-turn = rw read (ap (λ (l : List ℕ). textOf (relations (chainIn views l))) next ∙ simp (text-append, append-assoc))
 
 module _ (met : Interaction) (j : ℕ) (h : j < 16) where
   one-more : 16 - j ≡ suc (16 - (j + 1))
@@ -134,20 +143,21 @@ module _ (met : Interaction) (j : ℕ) (h : j < 16) where
   unfolding derivations
   other-turn t = ap (λ (n : ℕ). textOf (derivations met n j)) one-more ∙ simp t
 
-slice-none : (chain : List Interaction) (n i : ℕ) → n ≤ i → slice i n chain ≡ []
-slice-none chain n i h = drop-of-length-le (take n chain) {i = i} (omega (arith, length-take n chain))
+slice-none : (keys : List ℕ) (n i : ℕ) → n ≤ i → slice i n keys ≡ []
+slice-none keys n i h = drop-of-length-le (take n keys) {i = i} (omega (arith, length-take n keys))
 
-pub entities-end : (chain : List Interaction) (n i : ℕ) → n ≤ i → textOf (entities (slice i n chain)) ≡ []
-unfolding textOf entities
-entities-end chain n i h = ap (λ (l : List Interaction). textOf (entities l)) (slice-none chain n i h)
+module _ (keys : List ℕ) (n i : ℕ) (h : n ≤ i) where
+  pub entities-end : textOf (map entity (slice i n keys)) ≡ []
+  unfolding textOf
+  entities-end = ap (λ (l : List ℕ). textOf (map entity l)) (slice-none keys n i h)
 
-pub activities-end : (flags : List Bool) (chain : List Interaction) (n i : ℕ) → n ≤ i → textOf (activities flags (slice i n chain)) ≡ []
-unfolding textOf activities
-activities-end flags chain n i h = ap (λ (l : List Interaction). textOf (activities flags l)) (slice-none chain n i h)
+  pub activities-end : (views : List View) (flags : List Bool) → textOf (activities flags (chainIn views (slice i n keys))) ≡ []
+  unfolding textOf activities
+  activities-end views flags = ap (λ (l : List ℕ). textOf (activities flags (chainIn views l))) (slice-none keys n i h)
 
-pub relations-end : (chain : List Interaction) (n i : ℕ) → n ≤ i → textOf (relations (slice i n chain)) ≡ []
-unfolding textOf relations
-relations-end chain n i h = ap (λ (l : List Interaction). textOf (relations l)) (slice-none chain n i h)
+  pub relations-end : (views : List View) → textOf (relations (chainIn views (slice i n keys))) ≡ []
+  unfolding textOf relations
+  relations-end views = ap (λ (l : List ℕ). textOf (relations (chainIn views l))) (slice-none keys n i h)
 
 pub causes-end : (met : Interaction) (j : ℕ) → 16 ≤ j → textOf (derivations met (16 - j) j) ≡ []
 unfolding textOf derivations
@@ -187,14 +197,10 @@ writes-holds {l} {out} {text} {n} e h =
     let laid : out ≡ text ++ drop (0 + length text) l = ap (λ (s : Sheet). s .bytes) both ∙ sets-eq text l 0 fits in
     record { long = long; first = rw (laid, long) (take-append-seam text (drop (0 + length text) l)) }
 
-pub table-map : {A : Type 0} (f : ℕ → A) (l : List ℕ) → length l ≡ 16 → table (λ i. f (getD l i 0)) 16 ≡ map f l
-table-map f l e =
-    ext-getD (f 0) (table (λ i. f (getD l i 0)) 16) (map f l) (length-table (λ i. f (getD l i 0)) 16 ∙ sym (length-map l f ∙ e))
-    (λ n b. table-at (λ i. f (getD l i 0)) 16 (f 0) n (omega (arith, length-table (λ i. f (getD l i 0)) 16)) ∙ sym (List·getD-map f l n 0))
-
 -- in the array that has room for the longest
 pub record Made (text out : List ℕ) (n : ℕ) : Type 0 where
   pub holds : Holds text out n
+  pub wide : length out ≡ 6247
   pub room : n ≤ length out
   pub short : n ≤ 6247
 
@@ -202,4 +208,4 @@ pub made : {out text : List ℕ} {n : ℕ} → Writes (replicate 6247 0) 0 text 
 made {out} {text} {n} e h =
     let wide = length-replicate {A = ℕ} 6247 0 in
     let holds = writes-holds e (omega (arith, wide)) in
-    record { holds = holds; room = omega (arith, wide, holds .long, e .long); short = omega (arith, holds .long) }
+    record { holds = holds; wide = e .long ∙ wide; room = omega (arith, wide, holds .long, e .long); short = omega (arith, holds .long) }

@@ -1,6 +1,6 @@
--- The chain of a walk, as the code lays it out: sixteen places, one for each key that a walk can meet.
+-- The chain of a walk, as the code reads it: from the views, key by key.
 use Prim.Native.Nat.{ℕ}
-use mathlib.Core.List.{List}
+use mathlib.Core.List.{List, map}
 use lib.ListN.{getD}
 use Rattle.protocol.specs.Slots.{number, noView}
 use Rattle.protocol.specs.declared.View.{View}
@@ -10,6 +10,6 @@ use Rattle.protocol.specs.declared.Interaction.{Interaction}
 abbrev pub statedIn : List View → ℕ → Interaction
 statedIn views k = record { key = k; sender = getD views (number k 0) noView .actor; causes = getD views (number k 0) noView .causes }
 
--- what a place behind the last interaction reads as
-abbrev pub noInteraction : Interaction
-noInteraction = record { key = 0; sender = 0; causes = 0 }
+-- the chain of these keys
+abbrev pub chainIn : List View → List ℕ → List Interaction
+chainIn views keys = map (statedIn views) keys

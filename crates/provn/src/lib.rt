@@ -8,23 +8,24 @@ ghost use Prim.Native.Nat.{_≤_};
 ghost use lib.ListN.{length, take};
 ghost use Rattle.protocol.specs.Lent.{lent, shortNo, over};
 ghost use Rattle.protocol.specs.Provn.{textOf, linesOf, provnOf, provnBuffer};
-use protocol::Interaction;
+ghost use Rattle.provn.specs.Chain.{chainIn};
 use protocol::State;
+use protocol::View;
 use protocol::Written;
 
-// The document of a chain: made in an array that has room for the longest, then put over the buffer.
-fn lay(chain: [Interaction; 16], count: usize, buffer: &mut [u8]) -> Written
-    requires { ⌜ (count ≤ 16) × (length (textOf (linesOf (take count chain))) ≤ 6247) ⌝ }
-    ensures answer { λ r. ⌜ r .answer ≡ shortNo (textOf (linesOf (take count chain))) (now (buffer .entry)) ⌝ }
-    ensures len { λ r. ⌜ r .len ≡ lent (r .answer) (length (textOf (linesOf (take count chain)))) 0 ⌝ }
-    ensures buffer { λ r. ⌜ now (buffer .exit) ≡ lent (r .answer) (over (textOf (linesOf (take count chain))) (now (buffer .entry))) (now (buffer .entry)) ⌝ }
+// The document of the first of these keys: made in an array that has room for the longest, then copied over the buffer.
+fn lay(views: [View; 32], keys: [u8; 16], count: usize, buffer: &mut [u8]) -> Written
+    requires { ⌜ (count ≤ 16) × (length (textOf (linesOf (chainIn views (take count keys)))) ≤ 6247) ⌝ }
+    ensures answer { λ r. ⌜ r .answer ≡ shortNo (textOf (linesOf (chainIn views (take count keys)))) (now (buffer .entry)) ⌝ }
+    ensures len { λ r. ⌜ r .len ≡ lent (r .answer) (length (textOf (linesOf (chainIn views (take count keys))))) 0 ⌝ }
+    ensures buffer { λ r. ⌜ now (buffer .exit) ≡ lent (r .answer) (over (textOf (linesOf (chainIn views (take count keys)))) (now (buffer .entry))) (now (buffer .entry)) ⌝ }
 {
     let mut text = [0u8; 6247];
-    let n = lines::document(&mut text, chain, count);
-    let no = lending::put(buffer, &text, n);
-    if no != 0 {
-        return Written { answer: no, len: 0 };
+    let n = lines::document(&mut text, views, keys, count);
+    if buffer.len() < n {
+        return Written { answer: 14, len: 0 };
     }
+    lending::copy(buffer, &text, n);
     Written {
         answer: 0,
         len: n as u16,
@@ -46,6 +47,5 @@ pub fn write(m: State, key: u8, buffer: &mut [u8]) -> Written
     }
     let views = m.views;
     let keys = walked.keys;
-    let met = chain::chain(views, keys);
-    lay(met, walked.count as usize, buffer)
+    lay(views, keys, walked.count as usize, buffer)
 }

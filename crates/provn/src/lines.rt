@@ -3,12 +3,15 @@ ghost use mathlib.Core.Path.{_≡_};
 ghost use Prim.Native.Nat.{_<_, _≤_};
 ghost use lib.ListN.{length, getD, set, replicate, take};
 ghost use mathlib.Core.Bool.{true, false};
+ghost use mathlib.Core.List.{map};
 ghost use Rattle.protocol.specs.Words.{bit};
-ghost use Rattle.protocol.specs.Provn.{Line, interactionName, actorName, lineText, textOf, entities, activities, derivations, relations, linesOf};
+ghost use Rattle.protocol.specs.Provn.{Line, interactionName, actorName, lineText, textOf, activities, derivations, relations, linesOf};
 ghost use Rattle.provn.specs.Sheet.{Writes};
+ghost use Rattle.provn.specs.Chain.{statedIn, chainIn};
 use crate::bytes::number;
 use crate::bytes::words;
-use protocol::Interaction;
+use crate::chain::stated;
+use protocol::View;
 
 fn interaction_name(out: &mut [u8], at: usize, i: u8) -> usize
     ensures { λ r. ⌜ Writes (now (out .entry)) at (interactionName i) (now (out .exit)) r ⌝ }
@@ -50,13 +53,15 @@ fn generated(out: &mut [u8], at: usize, i: u8, a: u8) -> usize
     words(out, end, b",-)\n")
 }
 
-fn used(out: &mut [u8], at: usize, a: u8, i: u8) -> usize
-    ensures { λ r. ⌜ Writes (now (out .entry)) at (lineText (Line.used a i)) (now (out .exit)) r ⌝ }
+// Of what its sender used for an effect, one cause.
+fn used(out: &mut [u8], at: usize, views: [View; 32], effect: u8, cause: u8) -> usize
+    ensures { λ r. ⌜ Writes (now (out .entry)) at (lineText (Line.used (statedIn views effect .sender) cause)) (now (out .exit)) r ⌝ }
 {
+    let met = stated(views, effect);
     let first = words(out, at, b"used(");
-    let comma = actor_name(out, first, a);
+    let comma = actor_name(out, first, met.sender);
     let second = words(out, comma, b",");
-    let end = interaction_name(out, second, i);
+    let end = interaction_name(out, second, cause);
     words(out, end, b",-)\n")
 }
 
@@ -78,15 +83,16 @@ fn has(set: u16, j: u8) -> bool
 }
 
 // For each cause, rising: `used` by the same sender, then `wasDerivedFrom`, effect first.
-fn causes(out: &mut [u8], at: usize, met: Interaction) -> usize
-    ensures { λ r. ⌜ Writes (now (out .entry)) at (textOf (derivations met 16 0)) (now (out .exit)) r ⌝ }
+fn causes(out: &mut [u8], at: usize, views: [View; 32], key: u8) -> usize
+    ensures { λ r. ⌜ Writes (now (out .entry)) at (textOf (derivations (statedIn views key) 16 0)) (now (out .exit)) r ⌝ }
 {
+    let met = stated(views, key);
     let mut end = at;
     let mut j: u8 = 0;
     while j < 16 {
         if has(met.causes, j) {
-            end = used(out, end, met.sender, j);
-            end = derived(out, end, met.key, j);
+            end = used(out, end, views, key, j);
+            end = derived(out, end, key, j);
             j += 1;
         } else {
             j += 1;
@@ -95,30 +101,35 @@ fn causes(out: &mut [u8], at: usize, met: Interaction) -> usize
     end
 }
 
-fn each_entity(out: &mut [u8], at: usize, chain: [Interaction; 16], count: usize) -> usize
+fn each_entity(out: &mut [u8], at: usize, keys: [u8; 16], count: usize) -> usize
     requires { ⌜ count ≤ 16 ⌝ }
-    ensures { λ r. ⌜ Writes (now (out .entry)) at (textOf (entities (take count chain))) (now (out .exit)) r ⌝ }
+    ensures { λ r. ⌜ Writes (now (out .entry)) at (textOf (map Line.entity (take count keys))) (now (out .exit)) r ⌝ }
 {
     let mut end = at;
     let mut i: usize = 0;
     while i < count {
-        let met = chain[i];
-        end = entity(out, end, met.key);
+        end = entity(out, end, keys[i]);
         i += 1;
     }
     end
 }
 
-fn each_relation(out: &mut [u8], at: usize, chain: [Interaction; 16], count: usize) -> usize
+fn each_relation(
+    out: &mut [u8],
+    at: usize,
+    views: [View; 32],
+    keys: [u8; 16],
+    count: usize,
+) -> usize
     requires { ⌜ count ≤ 16 ⌝ }
-    ensures { λ r. ⌜ Writes (now (out .entry)) at (textOf (relations (take count chain))) (now (out .exit)) r ⌝ }
+    ensures { λ r. ⌜ Writes (now (out .entry)) at (textOf (relations (chainIn views (take count keys)))) (now (out .exit)) r ⌝ }
 {
     let mut end = at;
     let mut i: usize = 0;
     while i < count {
-        let met = chain[i];
+        let met = stated(views, keys[i]);
         end = generated(out, end, met.key, met.sender);
-        end = causes(out, end, met);
+        end = causes(out, end, views, met.key);
         i += 1;
     }
     end
@@ -143,15 +154,21 @@ fn declare(flags: &mut [bool; 8], a: u8)
     }
 }
 
-fn each_activity(out: &mut [u8], at: usize, chain: [Interaction; 16], count: usize) -> usize
+fn each_activity(
+    out: &mut [u8],
+    at: usize,
+    views: [View; 32],
+    keys: [u8; 16],
+    count: usize,
+) -> usize
     requires { ⌜ count ≤ 16 ⌝ }
-    ensures { λ r. ⌜ Writes (now (out .entry)) at (textOf (activities (replicate 8 false) (take count chain))) (now (out .exit)) r ⌝ }
+    ensures { λ r. ⌜ Writes (now (out .entry)) at (textOf (activities (replicate 8 false) (chainIn views (take count keys)))) (now (out .exit)) r ⌝ }
 {
     let mut flags = [false; 8];
     let mut end = at;
     let mut i: usize = 0;
     while i < count {
-        let met = chain[i];
+        let met = stated(views, keys[i]);
         if is_declared(flags, met.sender) {
             i += 1;
         } else {
@@ -163,14 +180,14 @@ fn each_activity(out: &mut [u8], at: usize, chain: [Interaction; 16], count: usi
     end
 }
 
-// The document of the first interactions of a chain.
-pub(crate) fn document(out: &mut [u8], chain: [Interaction; 16], count: usize) -> usize
+// The document of the first of these keys.
+pub(crate) fn document(out: &mut [u8], views: [View; 32], keys: [u8; 16], count: usize) -> usize
     requires { ⌜ count ≤ 16 ⌝ }
-    ensures { λ r. ⌜ Writes (now (out .entry)) 0 (textOf (linesOf (take count chain))) (now (out .exit)) r ⌝ }
+    ensures { λ r. ⌜ Writes (now (out .entry)) 0 (textOf (linesOf (chainIn views (take count keys)))) (now (out .exit)) r ⌝ }
 {
     let entities = words(out, 0, b"document\nprefix r <urn:runs:>\n");
-    let activities = each_entity(out, entities, chain, count);
-    let relations = each_activity(out, activities, chain, count);
-    let end = each_relation(out, relations, chain, count);
+    let activities = each_entity(out, entities, keys, count);
+    let relations = each_activity(out, activities, views, keys, count);
+    let end = each_relation(out, relations, views, keys, count);
     words(out, end, b"endDocument\n")
 }

@@ -1,7 +1,7 @@
 -- `lending::put` meets its contract: the test finds the buffer too short, or the copy goes over it. Assumes nothing.
-use mathlib.Core.Path.{refl}
+use mathlib.Core.Path.{refl, _∙_}
 use borrow.Author.Needs.{needs}
-use Rattle.lending.proofs.Copying.{too-short, has-room}
+use Rattle.lending.proofs.Copying.{whole, too-short, has-room}
 use Rattle.lending.proofs.put.Statement.{statement}
 use Rattle.lending.proofs.put.Tie as tie
 
@@ -16,7 +16,9 @@ same-length c = search needs
 
 returns-2 : tie.Need-returns-2
 returns-2 c =
-    (has-room _ _ _ (c .before .before .before .before .before .before .before .pre) (c .before .before .before .before .if1 .left), c .before .before .copy .ensures)
+    let start = c .before .before .before .before .before .before .before in
+    let room = c .before .before .before .before .if1 .left in
+    (has-room _ _ _ (start .pre) room, c .before .before .copy .ensures ∙ whole _ _ _ room)
 
 pub put-spec : {M : Type 1} → statement M
 put-spec = tie.close (tie.spec returns copy-requires same-length returns-2)

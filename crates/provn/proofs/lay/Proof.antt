@@ -1,7 +1,10 @@
 -- `provn::lay` meets its contract: the array holds the document, which goes over the buffer where that has room. Assumes nothing.
-use mathlib.Core.Path.{sym, _∙_}
+use Prim.Native.Nat.{ℕ}
+use mathlib.Core.Path.{refl, ap, _∙_}
+use mathlib.Core.List.{List}
 use native.Mathlib.Omega.{arith}
-use borrow.Author.Tests.{ne-eqb}
+use Rattle.protocol.specs.Lent.{shortNo, over}
+use Rattle.lending.proofs.Copying.{whole, too-short, has-room}
 use Rattle.provn.proofs.Writing.{made}
 use borrow.Author.Needs.{needs}
 use Rattle.provn.proofs.lay.Statement.{statement}
@@ -13,33 +16,35 @@ slice-aggregate-document c = search needs
 document-requires : tie.Need-document-requires
 document-requires c κs = search needs
 
-slice-aggregate-put : tie.Need-slice-aggregate-put
-slice-aggregate-put c = search needs
+returns : tie.Need-returns
+returns c =
+    let start = c .before .before .before .before .before in
+    let text = made (c .before .before .document .ensures) (start .pre .1) in
+    let buffer = start .args .buffer .now in
+    (too-short _ _ _ (text .room) (c .if1 .taken) ∙ ap (λ (l : List ℕ). shortNo l buffer) (text .holds .first), (refl, refl))
 
-put-requires : tie.Need-put-requires
-put-requires c κs = made (c .before .before .before .document .ensures) (c .before .before .before .before .before .before .pre .1) .room
+slice-aggregate-copy : tie.Need-slice-aggregate-copy
+slice-aggregate-copy c = search needs
+
+copy-requires : tie.Need-copy-requires
+copy-requires c κs =
+    let text = made (c .before .before .before .before .document .ensures) (c .before .before .before .before .before .before .before .pre .1) in
+    omega (arith, text .wide, text .short)
+
+cast-t16 : tie.Need-cast-t16
+cast-t16 c = record { fits = omega (arith, made (c .before .before .before .before .before .before .before .document .ensures) (c .before .before .before .before .before .before .before .before .before .before .pre .1) .short) }
 
 same-length : tie.Need-same-length
 same-length c = search needs
 
-returns : tie.Need-returns
-returns c =
-    let text = made (c .before .before .before .before .before .before .before .document .ensures) (c .before .before .before .before .before .before .before .before .before .before .pre .1) .holds in
-    let put = c .before .before .before .put .ensures in
-    (rw (text .first) at (put .0), (simp (ne-eqb _ 0 (c .if1 .taken)), rw (text .first) at (put .1)))
-
-cast-t14 : tie.Need-cast-t14
-cast-t14 c = record { fits = omega (arith, made (c .before .before .before .before .before .before .before .document .ensures) (c .before .before .before .before .before .before .before .before .before .before .pre .1) .short) }
-
-same-length-2 : tie.Need-same-length-2
-same-length-2 c = search needs
-
 returns-2 : tie.Need-returns-2
 returns-2 c =
-    let text = made (c .before .before .before .before .before .before .before .document .ensures) (c .before .before .before .before .before .before .before .before .before .before .pre .1) .holds in
-    let put = c .before .before .before .put .ensures in
-    let none = c .if1 .left in
-    (sym none ∙ rw (text .first) at (put .0), (text .long, simp (none, text .first) at (put .1)))
+    let start = c .before .before .before .before .before .before .before .before .before .before in
+    let text = made (c .before .before .before .before .before .before .before .document .ensures) (start .pre .1) in
+    let buffer = start .args .buffer .now in
+    let first = text .holds .first in
+    let room = c .before .before .before .before .before .if1 .left in
+    (has-room _ _ _ (text .room) room ∙ ap (λ (l : List ℕ). shortNo l buffer) first, (text .holds .long, c .before .before .copy .ensures ∙ whole _ _ _ room ∙ ap (λ (l : List ℕ). over l buffer) first))
 
 pub lay-spec : {M : Type 1} → statement M
 lay-spec =
@@ -47,10 +52,9 @@ lay-spec =
     (tie.spec
     slice-aggregate-document
     document-requires
-    slice-aggregate-put
-    put-requires
-    same-length
     returns
-    cast-t14
-    same-length-2
+    slice-aggregate-copy
+    copy-requires
+    cast-t16
+    same-length
     returns-2)

@@ -3,6 +3,7 @@
 use mathlib.Core.Path.{sym, _∙_}
 use borrow.Author.Needs.{needs}
 use borrow.Author.Tests.{ne-eqb}
+use Rattle.lending.proofs.Copying.{whole}
 use Rattle.tautlichen.proofs.Listed.{Told, refused, fits, listed, shown, answered}
 use Rattle.tautlichen.proofs.tautlichen_list.Statement.{statement}
 use Rattle.tautlichen.proofs.tautlichen_list.Tie as tie
@@ -45,8 +46,7 @@ cast-copy c = search needs
 
 copy-requires : tie.Need-copy-requires
 copy-requires c κs =
-    let f = fits (told (c .before .before .before .before .before .before .before .before .before .before .before)) (c .before .before .before .before .before .before .before .before .before .before .if1 .left) in
-    (rw (c .before .before .before .before .before .before .before .before .before .before .before .before .before .run .kept .1 .0) (f .0), f .1)
+    rw (c .before .before .before .before .before .before .before .before .before .before .before .before .before .run .kept .1 .0) (fits (told (c .before .before .before .before .before .before .before .before .before .before .before)) (c .before .before .before .before .before .before .before .before .before .before .if1 .left) .0)
 
 same-length-2 : tie.Need-same-length-2
 same-length-2 c = search needs
@@ -60,7 +60,7 @@ returns-3 c =
     let z = c .before .before .before .before .before .before .before .before .before .before .before .before .before .if1 .left in
     let shows = c .before .before .before .before .before .before .before .before .before .show .ensures in
     let none = c .before .before .before .before .before .before .if2 .left in
-    (sym none ∙ shown t z _ (shows .0), (c .before .before .copy .ensures ∙ answered t z, (simp (none, listed t z) at (shows .1 .0), simp (none, listed t z) at (shows .1 .1))))
+    (sym none ∙ shown t z _ (shows .0), (c .before .before .copy .ensures ∙ whole _ _ _ (fits t z .1) ∙ answered t z, (simp (none, listed t z) at (shows .1 .0), simp (none, listed t z) at (shows .1 .1))))
 
 pub tautlichen-list-spec : {M : Type 1} → statement M
 tautlichen-list-spec =

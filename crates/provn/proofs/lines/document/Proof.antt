@@ -1,5 +1,8 @@
 -- `provn::lines::document` meets its contract: the parts written one behind the other are the document. Assumes nothing.
-use Rattle.provn.proofs.Writing.{then, document-text}
+use mathlib.Core.Path.{ap}
+use lib.ListN.{take}
+use Rattle.protocol.specs.Provn.{textOf}
+use Rattle.provn.proofs.Writing.{then, entities-keys, document-text}
 use borrow.Author.Needs.{needs}
 use Rattle.provn.proofs.lines.document.Statement.{statement}
 use Rattle.provn.proofs.lines.document.Tie as tie
@@ -29,7 +32,10 @@ same-length : tie.Need-same-length
 same-length c = search needs
 
 returns : tie.Need-returns
-returns c = rw document-text (then (then (then (then (c .before .before .before .before .before .before .before .before .before .before .before .before .before .before .before .before .before .before .before .words .ensures) (c .before .before .before .before .before .before .before .before .before .before .before .before .before .before .before .each-entity .ensures)) (c .before .before .before .before .before .before .before .before .before .before .before .each-activity .ensures)) (c .before .before .before .before .before .before .before .each-relation .ensures)) (c .before .before .words2 .ensures))
+returns c =
+    let given = c .before .before .before .before .before .before .before .before .before .before .before .before .before .before .before .before .before .before .before .before .before .before .before .args in
+    let entities = rw (ap textOf (entities-keys (given .views) (take (given .count) (given .keys)))) at (c .before .before .before .before .before .before .before .before .before .before .before .before .before .before .before .each-entity .ensures) in
+    rw document-text (then (then (then (then (c .before .before .before .before .before .before .before .before .before .before .before .before .before .before .before .before .before .before .before .words .ensures) entities) (c .before .before .before .before .before .before .before .before .before .before .before .each-activity .ensures)) (c .before .before .before .before .before .before .before .each-relation .ensures)) (c .before .before .words2 .ensures))
 
 pub document-spec : {M : Type 1} → statement M
 document-spec =

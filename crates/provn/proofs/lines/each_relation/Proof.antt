@@ -5,24 +5,25 @@ use borrow.Author.Needs.{needs}
 use lib.ListN.{take}
 use lib.Seq.{slice}
 use Rattle.protocol.specs.Provn.{textOf, relations}
+use Rattle.provn.specs.Chain.{chainIn}
 use Rattle.provn.proofs.Writing.{Left, then, left-all, left-none, left-after, relations-turn, relations-end}
 use Rattle.provn.proofs.lines.each_relation.Statement.{statement}
 use Rattle.provn.proofs.lines.each_relation.Tie as tie
 
 abbrev Inv-loop : tie.InvT-loop
-Inv-loop out₀ at count chain end₀ i₀ out end i = (i ≤ count) × Left out₀ at (textOf (relations (take count chain))) out end (textOf (relations (slice i count chain)))
+Inv-loop out₀ at views count keys end₀ i₀ out end i = (i ≤ count) × Left out₀ at (textOf (relations (chainIn views (take count keys)))) out end (textOf (relations (chainIn views (slice i count keys))))
 
 abbrev μ-loop : tie.MeasureT-loop
-μ-loop out₀ at count chain end₀ i₀ out end i = count - i
+μ-loop out₀ at views count keys end₀ i₀ out end i = count - i
 
 loop-holds : tie.Need-loop-holds Inv-loop μ-loop
 loop-holds c = (omega arith, left-all)
 
-mul-met : tie.Need-mul-met Inv-loop μ-loop
-mul-met c = omega arith
+array-read-stated : tie.Need-array-read-stated Inv-loop μ-loop
+array-read-stated c = omega arith
 
-array-copy-out-met : tie.Need-array-copy-out-met Inv-loop μ-loop
-array-copy-out-met c = omega arith
+stated-requires : tie.Need-stated-requires Inv-loop μ-loop
+stated-requires c κs = search needs
 
 generated-requires : tie.Need-generated-requires Inv-loop μ-loop
 generated-requires c κs = search needs
@@ -37,13 +38,15 @@ loop-less : tie.Need-loop-less Inv-loop μ-loop
 loop-less c = omega arith
 
 loop-again : tie.Need-loop-again Inv-loop μ-loop
-loop-again c = let start = c .before .before .before .before .before .before .before .before .before .before .before .before in (omega arith, left-after (c .before .before .before .before .before .before .before .before .before .before .loop .inv .1) (relations-turn _ _ _ (c .before .before .before .before .before .before .before .before .before .loop-test .taken) (omega (arith, start .pre, start .good .1 .1 .0 .1 .0 .1))) (then (c .before .before .before .before .before .before .generated .ensures) (c .before .before .causes .ensures)))
+loop-again c =
+    let start = c .before .before .before .before .before .before .before .before .before .before .before .before in
+    (omega arith, left-after (c .before .before .before .before .before .before .before .before .before .before .loop .inv .1) (relations-turn _ _ _ (c .before .before .before .before .before .before .before .before .before .loop-test .taken) (omega (arith, start .pre, start .good .1 .1 .1 .0 .1 .0 .1)) (start .args .views) (c .before .before .before .before .before .before .before .before .stated .ensures)) (then (c .before .before .before .before .before .before .generated .ensures) (c .before .before .causes .ensures)))
 
 same-length : tie.Need-same-length Inv-loop μ-loop
 same-length c = c .before .loop .inv .1 .long
 
 returns : tie.Need-returns Inv-loop μ-loop
-returns c = left-none (c .before .loop .inv .1) (relations-end _ _ _ (c .loop-test .left))
+returns c = left-none (c .before .loop .inv .1) (relations-end _ _ _ (c .loop-test .left) (c .before .before .before .args .views))
 
 pub each-relation-spec : {M : Type 1} → statement M
 each-relation-spec =
@@ -52,8 +55,8 @@ each-relation-spec =
     Inv-loop
     μ-loop
     loop-holds
-    mul-met
-    array-copy-out-met
+    array-read-stated
+    stated-requires
     generated-requires
     causes-requires
     add-i

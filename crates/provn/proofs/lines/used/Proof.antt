@@ -1,9 +1,14 @@
--- `provn::lines::used` meets its contract: pieces written one behind the other are the whole. Assumes nothing.
+-- `provn::lines::used` meets its contract: pieces written one behind the other are the whole, and the sender is the effect's. Assumes nothing.
 use Rattle.provn.proofs.Writing.{line-of-two}
-use Rattle.protocol.specs.Provn.{bytes, wordsOf}
+use mathlib.Core.Path.{ap}
+use Rattle.protocol.specs.Provn.{bytes, actorName, wordsOf}
+use Rattle.protocol.specs.declared.Interaction.{Interaction}
 use borrow.Author.Needs.{needs}
 use Rattle.provn.proofs.lines.used.Statement.{statement}
 use Rattle.provn.proofs.lines.used.Tie as tie
+
+stated-requires : tie.Need-stated-requires
+stated-requires c κs = search needs
 
 slice-aggregate-words : tie.Need-slice-aggregate-words
 slice-aggregate-words c = search needs
@@ -34,12 +39,15 @@ same-length c = search needs
 
 returns : tie.Need-returns
 unfolding wordsOf
-returns c = line-of-two (bytes "used(") (bytes ",") (bytes ",-)") (c .before .before .before .before .before .before .before .before .before .before .before .before .before .before .before .before .before .before .before .before .words .ensures) (c .before .before .before .before .before .before .before .before .before .before .before .before .before .before .before .before .actor-name .ensures) (c .before .before .before .before .before .before .before .before .before .before .before .words2 .ensures) (c .before .before .before .before .before .before .before .interaction-name .ensures) (c .before .before .words3 .ensures)
+returns c =
+    let sender = ap (λ (met : Interaction). actorName (met .sender)) (c .before .before .before .before .before .before .before .before .before .before .before .before .before .before .before .before .before .before .before .before .before .before .before .stated .ensures) in
+    line-of-two (bytes "used(") (bytes ",") (bytes ",-)") (c .before .before .before .before .before .before .before .before .before .before .before .before .before .before .before .before .before .before .before .before .words .ensures) (rw sender at (c .before .before .before .before .before .before .before .before .before .before .before .before .before .before .before .before .actor-name .ensures)) (c .before .before .before .before .before .before .before .before .before .before .before .words2 .ensures) (c .before .before .before .before .before .before .before .interaction-name .ensures) (c .before .before .words3 .ensures)
 
 pub used-spec : {M : Type 1} → statement M
 used-spec =
     tie.close
     (tie.spec
+    stated-requires
     slice-aggregate-words
     words-requires
     actor-name-requires
