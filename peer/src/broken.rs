@@ -2,7 +2,7 @@
 
 use crate::machine::{
     contains, members, setup_is_legal, Actor, ActorSetup, Interaction, Machine, Phase, Place,
-    Record, Store, View, What, MAX_ACTORS, MAX_COPIES, MAX_INTERACTIONS,
+    Record, Store, View, What, MAX_ACTORS, MAX_COPIES, MAX_INTERACTIONS, MAX_TRIES,
 };
 
 impl Machine {
@@ -68,7 +68,8 @@ impl Machine {
                 view.role == 1 && *record == Record { actor: record.actor, ..Record::default() }
             }
             _ => {
-                self.names_store(record.store)
+                record.tries <= MAX_TRIES
+                    && self.names_store(record.store)
                     && self.names_store(record.viewlink)
                     && self.causes_are_sound(view)
             }

@@ -5,7 +5,9 @@ use std::ops::Range;
 
 use crate::book::Book;
 use crate::generate::generate;
-use crate::machine::{members, Machine, Phase, Status, View, What, MAX_COPIES, MAX_INTERACTIONS};
+use crate::machine::{
+    members, Machine, Phase, Record, Status, View, What, MAX_COPIES, MAX_INTERACTIONS, MAX_TRIES,
+};
 use crate::programs::MAX_INPUT;
 use crate::refusal::{number, Refusal};
 use crate::step::{Step, KINDS};
@@ -45,6 +47,10 @@ enum Event {
     LateRecord,
     AckOfLeftStore,
     MovedReceipt,
+    FirstTry,
+    ThirdTry,
+    FourthTryRefused,
+    MoveAfterTries,
     SixteenInteractions,
     DrainRefused,
     WalkRefused,
@@ -54,7 +60,7 @@ enum Event {
 }
 
 /// What each event is called, in their order.
-const EVENT_NAMES: [&str; 16] = [
+const EVENT_NAMES: [&str; 20] = [
     "a sixteenth record lost",
     "a sixteenth ack lost",
     "a sixteenth update lost",
@@ -65,6 +71,10 @@ const EVENT_NAMES: [&str; 16] = [
     "a late record, the viewlink written by an update",
     "an ack of a store that was left",
     "a cause link set to where the receipt moved",
+    "a first try at the same store",
+    "a third try at the same store",
+    "a fourth try refused",
+    "a move to another store after tries",
     "sixteen interactions",
     "a drain refused with a store down",
     "a walk refused at an open interaction",
@@ -110,9 +120,8 @@ impl Coverage {
             let before = machine.clone();
             let answer = number(&machine.take(step));
             self.answers[usize::from(step.kind()) - 1][usize::from(answer)] += 1;
-            if answer == 0 {
-                event(&before, step).inspect(|&event| self.add_event(event, true));
-            }
+            let event = if answer == 0 { event(&before, step) } else { fourth_try(&before, step) };
+            event.inspect(|&event| self.add_event(event, true));
         }
         self.add_end(machine);
         Ok(())
@@ -218,6 +227,7 @@ fn event(machine: &Machine, step: Step) -> Option<Event> {
             let view = machine.head(actor)?;
             sixteenth(machine, What::Record, machine.record(view).store, view)
         }
+        Step::Timeout { actor, store } => tried(machine.record(machine.head(actor)?), store),
         Step::TakeRecord { store, view } => {
             sixteenth(machine, What::Ack, store, view).or_else(|| late(machine, store, view))
         }
@@ -242,6 +252,25 @@ fn event(machine: &Machine, step: Step) -> Option<Event> {
         }
         _ => None,
     }
+}
+
+/// A timeout that the machine takes: a try at the same store, or a move.
+fn tried(record: &Record, store: u8) -> Option<Event> {
+    match record.tries {
+        0 if record.store == store => Some(Event::FirstTry),
+        2 if record.store == store => Some(Event::ThirdTry),
+        1.. if record.store != store => Some(Event::MoveAfterTries),
+        _ => None,
+    }
+}
+
+/// A refused step that is a timeout to the current store, after three tries there.
+fn fourth_try(machine: &Machine, step: Step) -> Option<Event> {
+    let Step::Timeout { actor, store } = step else { return None };
+    let in_machine = actor < machine.actor_count && store < machine.store_count;
+    let head = in_machine.then(|| machine.head_in(actor, Phase::Sent))??;
+    let record = machine.record(head);
+    (record.store == store && record.tries == MAX_TRIES).then_some(Event::FourthTryRefused)
 }
 
 fn sixteenth(machine: &Machine, what: What, store: u8, view: View) -> Option<Event> {

@@ -5,6 +5,7 @@ use std::fmt::{self, Write};
 use crate::book::Book;
 use crate::machine::{
     members, ActorSetup, Entry, Machine, Phase, Status, View, What, MAX_ACTORS, MAX_STORES,
+    MAX_TRIES,
 };
 use crate::programs::MAX_INPUT;
 use crate::refusal::Refusal;
@@ -199,7 +200,8 @@ fn not_listed(machine: &Machine, step: Step) -> String {
     };
     if machine.lists(actor, store) {
         let head = machine.head(actor).expect("a timeout's head waits");
-        return format!("store {store} is the current store of {}", name(head));
+        let tried = format!("{} has tried its current store {store}", name(head));
+        return format!("{tried} again {MAX_TRIES} times, and has to leave it");
     }
     let list = numbers(machine.actors[usize::from(actor)].list.into());
     format!("store {store} isn't in actor {actor}'s list, which is {list}")

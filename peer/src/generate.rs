@@ -10,9 +10,14 @@ mod stories;
 use crate::random::Random;
 use draft::Draft;
 
-/// The book of a seed, as bytes. The styles take turns, so that few seeds cover them all.
+/// The styles take turns, so that few seeds cover them all.
+pub const STYLES: u64 = 21;
+
+/// The first styles have steps alone that are taken.
+pub const LEGAL_STYLES: u64 = 10;
+
+/// The book of a seed, as bytes.
 pub fn generate(seed: u64) -> Vec<u8> {
-    const STYLES: u64 = 20;
     let mut draft = Draft::new(Random::new(seed));
     match seed % STYLES {
         0..=4 => draft.run_of_random_length(),
@@ -21,9 +26,10 @@ pub fn generate(seed: u64) -> Vec<u8> {
         8 => draft.late_record(),
         9 => draft.moved_receipts(),
         10 => draft.sixteen(),
-        11..=14 => draft.near_misses(),
-        15 | 16 => draft.wild(),
-        17 => draft.illegal_setup(),
+        11 => draft.tries(),
+        12..=15 => draft.near_misses(),
+        16 | 17 => draft.wild(),
+        18 => draft.illegal_setup(),
         _ => return draft.damaged(),
     }
     draft.book.bytes()

@@ -12,6 +12,9 @@ pub const MAX_INTERACTIONS: usize = 16;
 /// So many copies of one message are in flight at one place at most.
 pub const MAX_COPIES: u8 = 15;
 
+/// So often a job tries its current store again before it has to leave it.
+pub const MAX_TRIES: u8 = 3;
+
 /// One view of an interaction: role 0 is the sender's, role 1 the receiver's.
 #[derive(Clone, Copy, PartialEq, Eq, Debug)]
 pub struct View {
@@ -53,6 +56,8 @@ pub struct Record {
     pub store: u8,
     pub viewlink: u8,
     pub changed: bool,
+    /// How often a timeout named the current store since the view came there.
+    pub tries: u8,
     pub phase: Phase,
     pub causes: u16,
     pub cause_links: [u8; MAX_INTERACTIONS],

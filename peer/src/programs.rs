@@ -157,8 +157,8 @@ fn record_line(out: &mut String, machine: &Machine, view: View) -> fmt::Result {
     let phase = record.phase as u8;
     write!(out, "V {} {} {} {phase}", view.key, view.role, record.actor)?;
     if record.phase != Phase::NotMade {
-        let changed = u8::from(record.changed);
-        write!(out, " {} {} {} {changed}", record.data, record.store, record.viewlink)?;
+        let (changed, tries) = (u8::from(record.changed), record.tries);
+        write!(out, " {} {} {} {changed} {tries}", record.data, record.store, record.viewlink)?;
         causes(out, record.causes, &record.cause_links)?;
     }
     writeln!(out)

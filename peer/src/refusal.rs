@@ -18,7 +18,7 @@ pub enum Refusal {
     StoreUp = 6,
     /// The phase, status or copy that the rule needs isn't there.
     NotThere = 7,
-    /// The store isn't in the list, or in a timeout is the current one.
+    /// The store isn't in the list, or in a timeout is the current one at three tries.
     NotListed = 8,
     /// A cause that from hasn't received, or that isn't made.
     NotReceived = 9,

@@ -5,7 +5,7 @@
 
 use crate::machine::{
     members, Application, Entry, Machine, Phase, Record, Repair, Side, Status, View, What,
-    MAX_INTERACTIONS,
+    MAX_INTERACTIONS, MAX_TRIES,
 };
 use crate::refusal::Refusal;
 use crate::step::Step;
@@ -117,17 +117,23 @@ impl Machine {
         Ok(())
     }
 
-    /// Step 5. The head moves to another store of the list and is sent again.
+    /// Step 5. The head is sent again: to its store, three times at most, or to another of the list.
     fn timeout(&mut self, actor: u8, store: u8) -> Taken {
         self.has_actor(actor)?;
         self.has_store(store)?;
         let view = self.head_in(actor, Phase::Sent).ok_or(Refusal::NotThere)?;
         let current = self.record(view).store == store;
-        Refusal::NotListed.when(current || !self.lists(actor, store))?;
+        let tried_out = current && self.record(view).tries == MAX_TRIES;
+        Refusal::NotListed.when(tried_out || !self.lists(actor, store))?;
 
         let record = &mut self.side_mut(view).record;
-        record.store = store;
-        record.changed = true;
+        if current {
+            record.tries += 1;
+        } else {
+            record.store = store;
+            record.changed = true;
+            record.tries = 0;
+        }
         record.phase = Phase::Ready;
         Ok(())
     }

@@ -49,7 +49,7 @@ fn unset(w: View) -> bool
     ensures { λ r. ⌜ r ≡ isUnset w ⌝ }
 {
     let nowhere = both(w.store == 0, w.viewlink == 0);
-    let kept = both(nowhere, !w.changed);
+    let kept = both(both(nowhere, !w.changed), w.tries == 0);
     both(both(kept, w.causes == 0), w.word == 0)
 }
 
@@ -59,7 +59,7 @@ fn phase_fine(stores: u8, w: View) -> bool
     if w.phase == 0 {
         return unset(w);
     }
-    both(w.store < stores, w.viewlink < stores)
+    both(both(w.store < stores, w.viewlink < stores), w.tries <= 3)
 }
 
 fn role_fine(sender: u8, v: usize, w: View) -> bool

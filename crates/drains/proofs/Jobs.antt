@@ -23,7 +23,7 @@ use Rattle.protocol.specs.Rule.{head, more}
 use Rattle.protocol.specs.Receive.{receiveNo, receivedOf, receivedView}
 use Rattle.protocol.specs.PreCheck.{preCheckNo, preChecked, checkedView}
 use Rattle.protocol.specs.SendRecord.{sendRecordNo, recordSent}
-use Rattle.protocol.specs.Timeout.{timeoutNo, timedOut, movedView}
+use Rattle.protocol.specs.Timeout.{timeoutNo, timedOut, timedView}
 use Rattle.protocol.specs.TakeRecord.{takeRecordNo, recordTaken}
 use Rattle.protocol.specs.TakeAck.{takeAckNo, ackTaken}
 use Rattle.protocol.specs.PostCheck.{postCheckNo, postChecked, askedRepair}
@@ -210,12 +210,12 @@ module _ (m : State) (w : Unbroken m) (a : ℕ) (ha : a < m .actors) (some : que
           → eqb (ackCopies m (view m v .store) v) 0 ≡ true → eqb (recordCopies m (view m v .store) v) 0 ≡ true → Lowers m (Timeout a q)
       unfolding timeoutNo timedOut seenOf
       timeout-good q hq listed other noAck noRecord =
-          let x = movedView q (view m v) in
+          let x = timedView q (view m v) in
           let before : s ≡ seen 3 (s .changed) (s .repair) (s .status) false false (s .uack) (s .update) = rw (h, noAck, noRecord) in
           record {
             taken = rw (lt-leb (m .actors) a ha, lt-leb (m .stores) q hq, ne-eqb (queue m a .len) 0 some, eq-eqb (view m v .phase) 3 h, listed, ne-eqb (view m v .store) q other);
             lower = total-falls m (timedOut m a q) refl v hv _ _ before (seen-view m w v hv x) (view-far m w v hv x)
-                (timeout-lowers _ (s .repair) (s .status) (s .uack) (s .update) (s .changed) _ _);
+                (rw (ne-eqb (view m v .store) q other) (timeout-lowers (seenOf m (opposite v)) (s .repair) (s .status) (s .uack) (s .update) (s .changed) (not (eqb (ackCopies m q v) 0)) (not (eqb (recordCopies m q v) 0))));
             up = refl;
             stores = refl;
             made = refl;

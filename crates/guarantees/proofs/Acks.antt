@@ -19,7 +19,7 @@ use Rattle.protocol.specs.declared.Step.the-variants.{TakeAck}
 use Rattle.protocol.specs.Kinds.{kind, field}
 use Rattle.protocol.specs.Run.{ran}
 use Rattle.guarantees.specs.Acknowledged.{acceptedInto, accepted, acknowledged}
-use Rattle.guarantees.proofs.Turns.{Turn, stays, received, checked, sends, moved, acked, settled}
+use Rattle.guarantees.proofs.Turns.{Turn, stays, received, checked, sends, timed, acked, settled}
 use Rattle.guarantees.proofs.Reached.{Reached}
 use Rattle.guarantees.proofs.Steps.{Move, turns-to, unmade, step-reached, moves}
 
@@ -79,7 +79,7 @@ module _ (m : State) (s : Step) (v : ℕ) where
   by-turn w (received k f h) e = let g : view (stepOf m s .state) v .phase ≡ 1 = ap (λ (x : View). x .phase) e in yet (not-accepted m s v (λ n z. omega arith)) (omega arith) (omega arith)
   by-turn w (checked h f) e = let g : view (stepOf m s .state) v .phase ≡ 2 = ap (λ (x : View). x .phase) e in yet (not-accepted m s v (λ n z. omega arith)) (omega arith) (omega arith)
   by-turn w (sends h) e = let g : view (stepOf m s .state) v .phase ≡ 3 = ap (λ (x : View). x .phase) e in yet (not-accepted m s v (λ n z. omega arith)) (omega arith) (omega arith)
-  by-turn w (moved p h) e = let g : view (stepOf m s .state) v .phase ≡ 2 = ap (λ (x : View). x .phase) e in yet (not-accepted m s v (λ n z. omega arith)) (omega arith) (omega arith)
+  by-turn w (timed p h) e = let g : view (stepOf m s .state) v .phase ≡ 2 = ap (λ (x : View). x .phase) e in yet (not-accepted m s v (λ n z. omega arith)) (omega arith) (omega arith)
   by-turn w (acked p k r f i h o) e =
       let g : view (stepOf m s .state) v .phase ≡ 4 = ap (λ (x : View). x .phase) e in
       now p k r f i (subst (λ (x : Step). view (stepOf m x .state) v .phase ≡ 4 → accepted m x v ≡ p ∷ []) (sym f) (λ z. is-accepted m p k r v i (λ y. omega arith) z) g) h o g (ap (λ (x : View). x .store) e ∙ o)

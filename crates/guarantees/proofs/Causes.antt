@@ -21,7 +21,7 @@ use Rattle.protocol.specs.PreCheck.{checkedLink}
 use Rattle.protocol.specs.declared.Step.{Step}
 use Rattle.unbroken.proofs.Laws.Every.{table-at}
 use Rattle.unbroken.proofs.Laws.Room.{actors8, sender-made}
-use Rattle.guarantees.proofs.Turns.{Turn, stays, received, checked, sends, moved, acked, settled}
+use Rattle.guarantees.proofs.Turns.{Turn, stays, received, checked, sends, timed, acked, settled}
 
 -- y stands in a list; x stands before y
 pub data In (y : ℕ) : List ℕ → Type 0 where
@@ -96,7 +96,7 @@ module _ {m : State} {s : Step} {v : ℕ} where
   turn-actor (received k e h) = ap (λ (x : ℕ). view m x .actor) (sym e)
   turn-actor (checked h e) = refl
   turn-actor (sends h) = refl
-  turn-actor (moved p h) = refl
+  turn-actor (timed p h) = refl
   turn-actor (acked p k r e f h g) = refl
   turn-actor (settled h e) = refl
 
@@ -105,7 +105,7 @@ module _ {m : State} {s : Step} {v : ℕ} where
   turn-causes (received k e g) h = absurd (let z : ⊥ = omega arith in z)
   turn-causes (checked g e) h = refl
   turn-causes (sends g) h = refl
-  turn-causes (moved p g) h = refl
+  turn-causes (timed p g) h = refl
   turn-causes (acked p k r e f g i) h = refl
   turn-causes (settled g e) h = refl
 
@@ -114,7 +114,7 @@ module _ {m : State} {s : Step} {v : ℕ} where
   turn-word (received k e g) h = absurd (let z : ⊥ = omega arith in z)
   turn-word (checked g e) h = refl
   turn-word (sends g) h = refl
-  turn-word (moved p g) h = refl
+  turn-word (timed p g) h = refl
   turn-word (acked p k r e f g i) h = refl
   turn-word (settled g e) h = refl
 
@@ -123,7 +123,7 @@ module _ {m : State} {s : Step} {v : ℕ} where
   turn-viewlink (received k e g) h = absurd (let z : ⊥ = omega arith in z)
   turn-viewlink (checked g e) h = refl
   turn-viewlink (sends g) h = refl
-  turn-viewlink (moved p g) h = refl
+  turn-viewlink (timed p g) h = refl
   turn-viewlink (acked p k r e f g i) h = refl
   turn-viewlink (settled g e) h = refl
 
@@ -132,7 +132,7 @@ module _ {m : State} {s : Step} {v : ℕ} where
   turn-links (received k e g) h = absurd (let z : ⊥ = omega arith in z)
   turn-links (checked g e) h = absurd (let z : ⊥ = omega arith in z)
   turn-links (sends g) h = refl
-  turn-links (moved p g) h = refl
+  turn-links (timed p g) h = refl
   turn-links (acked p k r e f g i) h = refl
   turn-links (settled g e) h = refl
 
@@ -141,7 +141,7 @@ module _ {m : State} {s : Step} {v : ℕ} where
   turn-made (received k e g) h = omega arith
   turn-made (checked g e) h = omega arith
   turn-made (sends g) h = omega arith
-  turn-made (moved p g) h = omega arith
+  turn-made (timed p g) h = omega arith
   turn-made (acked p k r e f g i) h = omega arith
   turn-made (settled g e) h = omega arith
 
@@ -151,7 +151,7 @@ module _ {m : State} {s : Step} {v : ℕ} where
   turn-settled (received k e g) h = absurd (let z : ⊥ = omega arith in z)
   turn-settled (checked g e) h = absurd (let z : ⊥ = omega arith in z)
   turn-settled (sends g) h = absurd (let z : ⊥ = omega arith in z)
-  turn-settled (moved p g) h = absurd (let z : ⊥ = omega arith in z)
+  turn-settled (timed p g) h = absurd (let z : ⊥ = omega arith in z)
   turn-settled (acked p k r e f g i) h = absurd (let z : ⊥ = omega arith in z)
   turn-settled (settled g e) h = absurd (let z : ⊥ = omega arith in z)
 
@@ -255,6 +255,6 @@ module _ (m : State) (u : Unbroken m) (s : Step) (j k : ℕ) (hj : j < 16) (hk :
         right = λ i. table-at (checkedLink m (view m (number k 0))) 16 0 j hj ∙ checks c h b f ∙ sym (ap (λ (v : View). v .store) w);
       }
   keep {receipt = r} {line = l} (sends h) t b f g c = onward _ r l t refl refl (omega arith) (omega arith) c
-  keep {receipt = r} {line = l} (moved p h) t b f g c = onward _ r l t refl refl (omega arith) (omega arith) c
+  keep {receipt = r} {line = l} (timed p h) t b f g c = onward _ r l t refl refl (omega arith) (omega arith) c
   keep {receipt = r} {line = l} (acked p i q e d h o) t b f g c = onward _ r l t refl refl (omega arith) (omega arith) c
   keep {receipt = r} {line = l} (settled h e) t b f g c = onward _ r l t refl refl (omega arith) (omega arith) c

@@ -6,7 +6,7 @@ use mathlib.Core.List.{List}
 use Prim.Native.Nat.{ℕ, suc, _+_, _-_, _*_, _≤_, _<_}
 use native.Mathlib.Omega.{arith}
 use native.Mathlib.Decide.{ℕ-discrete}
-use borrow.Author.Tests.{not-true, not-false, eqb-true, eqb-false}
+use borrow.Author.Tests.{not-true, not-false, eq-eqb, eqb-true, eqb-false}
 use lib.ListN.{length, getD, set, length-set}
 use lib.Seq.{getD-set-same, getD-set-other, set-getD}
 use Rattle.protocol.specs.Words.{pick, one}
@@ -29,7 +29,7 @@ use Rattle.protocol.specs.Rule.{head}
 use Rattle.protocol.specs.Send.{sent, sentView, awaitedView}
 use Rattle.protocol.specs.Receive.{receivedOf, receivedView}
 use Rattle.protocol.specs.PreCheck.{checkedView}
-use Rattle.protocol.specs.Timeout.{movedView}
+use Rattle.protocol.specs.Timeout.{isCurrent, timedView}
 use Rattle.protocol.specs.TakeRecord.{writtenContents, writtenViewlink}
 use Rattle.protocol.specs.PostCheck.{postChecked, askedRepair}
 use Rattle.protocol.specs.TakeRepair.{repairTaken, entered, toSend}
@@ -37,14 +37,15 @@ use Rattle.protocol.specs.SendUpdate.{inStatus}
 use Rattle.protocol.specs.Step.{numberOf, afterOf}
 use Rattle.protocol.specs.declared.Step.{Step}
 use Rattle.keeps.specs.Taken.{HeadIn, ViewOf, PlaceOf, SendTaken, ReceiveTaken, TakeRepairTaken}
-use Rattle.keeps.specs.Change.{HeadMove, isChecked, isSent, isMoved, isAcked, withFlight, FlightMove, recordComes, recordGoes, ackComes, ackGoes, updateComes, updateGoes, uackComes, uackGoes}
+use Rattle.keeps.specs.Change.{HeadMove, isChecked, isSent, isTimed, isAcked, withFlight, FlightMove, recordComes, recordGoes, ackComes, ackGoes, updateComes, updateGoes, uackComes, uackGoes}
 use Rattle.keeps.specs.Change.{withHeld, LinkMove, isWritten, isUpdated, StatusMove, isWaiting, isExpired, isDone, Change, onUp, onSend, onReceive, onHead, onSettle, onFlight, onHeld, onViewlink, onStatus, onRepair}
 use Rattle.keeps.specs.Onward.{Onward}
 use Rattle.keeps.proofs.Changes.{taken-related}
 use Rattle.keeps.proofs.Onward.{change-onward}
 use Rattle.keeps.proofs.Laws.{sends-new-key}
 use Rattle.guarantees.proofs.Local
-use Rattle.guarantees.proofs.Local.{Job, Good}
+use Rattle.unbroken.proofs.Laws.Tests.{by-test}
+use Rattle.guarantees.proofs.Local.{Job, Good, phasedJob, movedJob}
 use Rattle.guarantees.proofs.Whole.{job, jobOf, cell, Here, Everywhere, touched}
 use Rattle.unbroken.proofs.Laws.Room.{stores8, sender-made}
 use Rattle.unbroken.proofs.Shelves.{store-back, turned-link}
@@ -65,6 +66,12 @@ one-zero false h = refl
 one-false : (b : Bool) → one b ≡ 0 → b ≡ false
 one-false true e = let z : ⊥ = omega arith in absurd z
 one-false false e = refl
+
+-- 5: at the current store a change of phase and nothing else, at another one a move
+timed-job : (P : Job → Type 0) (w : View) (q : Repair) (e : Entry) (p : ℕ) → P (phasedJob 2 (jobOf w q e)) → P (movedJob p (jobOf w q e)) → P (jobOf (timedView p w) q e)
+timed-job P w q e p stays moves =
+    by-test (isCurrent p w)
+    (λ c. subst (λ (n : ℕ). P (jobOf (timedView n w) q e)) (eqb-true (w .store) p c) (rw (eq-eqb (w .store) (w .store) refl) stays)) (λ c. rw c moves)
 
 -- the sender's viewlink is the receiver's home
 unfoldable pub Homes : State → Type 0
@@ -176,9 +183,13 @@ module _ (m : State) (u : Unbroken m) (inv : Everywhere m) where
       (λ k r hk hr e. by-view m z fits inv k r hk hr (phased 3 (view m (number k r)))
       (λ p hp x y. Local.phased-me x y 3 (omega arith) (omega arith) (omega arith) (omega arith)) (λ p hp x y. Local.phased-ot x y 3 (omega arith) (omega arith)))
       a (headed m u a 2 h)
-  head-goes a w (isMoved p t) =
-      at-head m z fits inv (λ x. Everywhere (withView m x (movedView p (view m x)))) 3
-      (λ k r hk hr e. by-view m z fits inv k r hk hr (movedView p (view m (number k r))) (λ q hq x y. Local.moved-me x y e p) (λ q hq x y. Local.moved-ot x y e p))
+  head-goes a w (isTimed p t) =
+      at-head m z fits inv (λ x. Everywhere (withView m x (timedView p (view m x)))) 3
+      (λ k r hk hr e. by-view m z fits inv k r hk hr (timedView p (view m (number k r)))
+      (timed-job (Mine m z fits inv k r hk hr) (view m (number k r)) (repair m (number k r)) (entry m (number k r)) p
+      (λ q hq x y. Local.phased-me x y 2 (omega arith) (omega arith) (omega arith) (omega arith)) (λ q hq x y. Local.moved-me x y e p))
+      (timed-job (Yours m z fits inv k r hk hr) (view m (number k r)) (repair m (number k r)) (entry m (number k r)) p
+      (λ q hq x y. Local.phased-ot x y 2 (omega arith) (omega arith)) (λ q hq x y. Local.moved-ot x y e p)))
       a (headed m u a 3 (t .head))
   head-goes a w (isAcked p h at c) =
       at-head m z fits inv (λ x. view m x .store ≡ p → 1 ≤ ackCopies m p x → Everywhere (withView m x (phased 4 (view m x)))) 3

@@ -41,7 +41,7 @@ use Rattle.guarantees.specs.Acknowledged.{Legal, after}
 use Rattle.guarantees.specs.Sent.{Said, nothingSaid, saidBy, sends, sentAs}
 use Rattle.keeps.proofs.Which.{Kind, a-send, another, kinds}
 use Rattle.guarantees.proofs.Local.{none}
-use Rattle.guarantees.proofs.Turns.{Turn, stays, received, checked, sends as sends-on, moved, acked, settled, turns}
+use Rattle.guarantees.proofs.Turns.{Turn, stays, received, checked, sends as sends-on, timed, acked, settled, turns}
 use Rattle.guarantees.proofs.Reached.{Reached, new-sender, new-receiver}
 use Rattle.guarantees.proofs.Steps.{by-step, step-reached}
 use Rattle.guarantees.specs.Guarantees.{AsSent}
@@ -115,7 +115,7 @@ module _ (m : State) (c : Reached m) where
         turn w (received i x y) g = let z : i ≡ k = omega arith in ap (λ (j : ℕ). message m j .word) z
         turn w (checked x y) g = absurd (let z : ⊥ = omega arith in z)
         turn w (sends-on x) g = absurd (let z : ⊥ = omega arith in z)
-        turn w (moved p x) g = absurd (let z : ⊥ = omega arith in z)
+        turn w (timed p x) g = absurd (let z : ⊥ = omega arith in z)
         turn w (acked p i r x y z o) g = absurd (let q : ⊥ = omega arith in q)
         turn w (settled x y) g = absurd (let z : ⊥ = omega arith in z)
 

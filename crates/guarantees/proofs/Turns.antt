@@ -21,7 +21,7 @@ use Rattle.protocol.specs.Send.{sent, sentView, awaitedView}
 use Rattle.protocol.specs.Receive.{receivedOf, receivedView}
 use Rattle.protocol.specs.PreCheck.{preChecked, checkedView}
 use Rattle.protocol.specs.SendRecord.{recordSent}
-use Rattle.protocol.specs.Timeout.{timedOut, movedView}
+use Rattle.protocol.specs.Timeout.{timedOut, timedView}
 use Rattle.protocol.specs.TakeRecord.{recordTaken}
 use Rattle.protocol.specs.TakeAck.{ackTaken, accepts, isHead, ackedView}
 use Rattle.protocol.specs.PostCheck.{postChecked}
@@ -44,7 +44,7 @@ pub data Turn (m : State) (s : Step) (v : ℕ) : View → Type 0 where
   received : (k : ℕ) → v ≡ number k 1 → view m v .phase ≡ 0 → Turn m s v (receivedView m k)
   checked : view m v .phase ≡ 1 → v ≡ head m (view m v .actor) → Turn m s v (checkedView m (view m v))
   sends : view m v .phase ≡ 2 → Turn m s v (phased 3 (view m v))
-  moved : (p : ℕ) → view m v .phase ≡ 3 → Turn m s v (movedView p (view m v))
+  timed : (p : ℕ) → view m v .phase ≡ 3 → Turn m s v (timedView p (view m v))
   acked : (p k r : ℕ) → s ≡ TakeAck p k r → v ≡ number k r → view m v .phase ≡ 3 → view m v .store ≡ p → Turn m s v (phased 4 (view m v))
   settled : view m v .phase ≡ 4 → v ≡ head m (view m v .actor) → Turn m s v (phased 5 (view m v))
 
@@ -87,7 +87,7 @@ module _ (m : State) (u : Unbroken m) (v : ℕ) (h : v < m .made * 2) where
       one (SendRecord a) (head m a) (phased 3 (headView m a)) (head32 a 2 g) (λ x. of-head (λ w. Turn m (SendRecord a) v (phased 3 w)) a 2 g x (λ y i. sends y))
   turns (Timeout a p) e =
       let g = headed m u a 3 (taken-when m (Timeout a p) e .head) in
-      one (Timeout a p) (head m a) (movedView p (headView m a)) (head32 a 3 g) (λ x. of-head (λ w. Turn m (Timeout a p) v (movedView p w)) a 3 g x (λ y i. moved p y))
+      one (Timeout a p) (head m a) (timedView p (headView m a)) (head32 a 3 g) (λ x. of-head (λ w. Turn m (Timeout a p) v (timedView p w)) a 3 g x (λ y i. timed p y))
   turns (TakeRecord p k r) e = stays
   turns (TakeAck p k r) e =
       let t = taken-when m (TakeAck p k r) e in

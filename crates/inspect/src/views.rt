@@ -78,6 +78,7 @@ fn record_line(v: usize, w: View) {
         print::small(w.store);
         print::small(w.viewlink);
         flag(w.changed);
+        print::small(w.tries);
         print::causes(w.causes, links);
     }
     print::text(b"\n");

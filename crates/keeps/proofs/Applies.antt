@@ -18,7 +18,7 @@ use Rattle.protocol.specs.Send.{received, causeKnown, causesKnown, sendNo}
 use Rattle.protocol.specs.Receive.{receiveNo}
 use Rattle.protocol.specs.PreCheck.{preCheckNo}
 use Rattle.protocol.specs.SendRecord.{sendRecordNo}
-use Rattle.protocol.specs.Timeout.{timeoutNo}
+use Rattle.protocol.specs.Timeout.{isSpent, timeoutNo}
 use Rattle.protocol.specs.TakeRecord.{takeRecordNo}
 use Rattle.protocol.specs.TakeAck.{takeAckNo}
 use Rattle.protocol.specs.PostCheck.{postCheckNo}
@@ -36,7 +36,7 @@ use Rattle.protocol.specs.declared.Step.the-variants.{Send, Receive, PreCheck, 
 use Rattle.unbroken.proofs.Laws.Every.{below-fails}
 use Rattle.unbroken.proofs.Laws.Tests.{by-test, not-both, or-else, or-of, nor-left, nor-right, not-of}
 use Rattle.unbroken.proofs.Laws.Says.{Says, eq-says, is-says, le-splits, zero-splits, put-says}
-use Rattle.keeps.proofs.Conditions.{waiting, to-send, unless, head-says, received-says, causes-say}
+use Rattle.keeps.proofs.Conditions.{waiting, to-send, unless, spent-splits, head-says, received-says, causes-say}
 use Rattle.keeps.proofs.Cases.{step-case}
 use Rattle.unbroken.specs.Lowest.{IsLowest}
 use Rattle.keeps.specs.Applies.{Thing, actor, store, key, role, what, named, In, Needs, Applies, isBroken, isOutside, toItself, isFull, recordDown, updateDown, crashDown, restartUp, isMissing, ownUnlisted, timeoutUnlisted, timeoutCurrent, unreceived, StepRefusals}
@@ -128,9 +128,11 @@ module _ (m : State) where
       unreceived from to own word causes j (x .1) (not-false (bit causes j) (nor-left (not (bit causes j)) (received m from j) f))
       (λ y. not-both (received m from j) (received-says m from j .told y) (nor-right (not (bit causes j)) (received m from j) f))
 
-  timeout-fails : (a p : ℕ) → not (bit (list m a) p) || eqb (headView m a .store) p ≡ true → Applies m (Timeout a p) 8
+  timeout-fails : (a p : ℕ) → not (bit (list m a) p) || isSpent p (headView m a) ≡ true → Applies m (Timeout a p) 8
   timeout-fails a p e =
-      by-test (bit (list m a) p) (λ b. timeoutCurrent a p (eqb-true (headView m a .store) p (or-else (not (bit (list m a) p)) (eqb (headView m a .store) p) e (ap not b)))) (λ b. timeoutUnlisted a p b)
+      let spent : bit (list m a) p ≡ true → (headView m a .store ≡ p) × (3 ≤ headView m a .tries) =
+      λ b. spent-splits m a p .holds .tells (or-else (not (bit (list m a) p)) (isSpent p (headView m a)) e (ap not b)) in
+      by-test (bit (list m a) p) (λ b. timeoutCurrent a p (spent b .0) (spent b .1)) (λ b. timeoutUnlisted a p b)
 
   unfoldable rows : (s : Step) → Rows s
   unfolding sendNo receiveNo preCheckNo sendRecordNo timeoutNo takeRecordNo takeAckNo postCheckNo takeRepairNo sendUpdateNo takeUpdateNo takeUackNo expireNo loseNo crashNo restartNo
@@ -153,7 +155,7 @@ module _ (m : State) where
   rows (SendRecord a) = plain (SendRecord a) (unless (head-says 2 m a) .holds) refl
   rows (Timeout a p) =
       record {
-        tests = (7 if not (headIn 3 m a)) ∷ (8 if not (bit (list m a) p) || eqb (headView m a .store) p) ∷ [];
+        tests = (7 if not (headIn 3 m a)) ∷ (8 if not (bit (list m a) p) || isSpent p (headView m a)) ∷ [];
         rises = refl;
         number = refl;
         missing = λ n. inl (refl, unless (head-says 3 m a) .holds .told n);
@@ -200,8 +202,8 @@ module _ (m : State) where
   told (isMissing {s = s} n) = inr (inr (rows s .missing n))
   told (ownUnlisted from to own word causes e) = inr (inr (inr (inr (inl (refl, not-of (bit (list m from) own) e)))))
   told (timeoutUnlisted a p e) =
-      inr (inr (inr (inl (refl, or-of (not (bit (list m a) p)) (eqb (headView m a .store) p) (λ f. not-both (not (bit (list m a) p)) (not-of (bit (list m a) p) e) f)))))
-  told (timeoutCurrent a p e) = inr (inr (inr (inl (refl, or-of (not (bit (list m a) p)) (eqb (headView m a .store) p) (λ f. eq-eqb (headView m a .store) p e)))))
+      inr (inr (inr (inl (refl, or-of (not (bit (list m a) p)) (isSpent p (headView m a)) (λ f. not-both (not (bit (list m a) p)) (not-of (bit (list m a) p) e) f)))))
+  told (timeoutCurrent a p e t) = inr (inr (inr (inl (refl, or-of (not (bit (list m a) p)) (isSpent p (headView m a)) (λ f. spent-splits m a p .holds .told (e, t))))))
   told (unreceived from to own word causes j l b n) =
       inr (inr (inr (inr (inr (inl (refl, unless (causes-say m from causes) .holds .told (λ f. n (f j l b))))))))
 

@@ -31,7 +31,7 @@ use Rattle.protocol.specs.TakeRecord.{writtenContents, writtenViewlink, recordT
 use Rattle.protocol.specs.TakeAck.{isHead, accepts, ackedView, ackTaken}
 use Rattle.protocol.specs.SendRecord.{recordSent}
 use Rattle.protocol.specs.PreCheck.{checkedView, preChecked}
-use Rattle.protocol.specs.Timeout.{movedView, timedOut}
+use Rattle.protocol.specs.Timeout.{timedView, timedOut}
 use Rattle.protocol.specs.Expire.{expired}
 use Rattle.protocol.specs.Lose.{lost}
 use Rattle.protocol.specs.Crash.{crashed}
@@ -40,7 +40,7 @@ use Rattle.protocol.specs.Step.{numberOf, afterOf, stepOf}
 use Rattle.protocol.specs.declared.Step.{Step}
 use Rattle.protocol.specs.declared.Step.the-variants.{Send, Receive, PreCheck, SendRecord, Timeout, TakeRecord, TakeAck, PostCheck, TakeRepair, SendUpdate, TakeUpdate, TakeUack, Expire, Lose, Crash, Restart}
 use Rattle.keeps.specs.Taken.{HeadIn, PlaceOf, TakeRecordTaken, TakeAckTaken, SendUpdateTaken, TakeUpdateTaken, TakeUackTaken, LoseTaken, Taken}
-use Rattle.keeps.specs.Change.{HeadMove, isChecked, isSent, isMoved, isAcked, withFlight, FlightMove, recordComes, recordGoes, ackComes, ackGoes, updateComes, updateGoes, uackComes, uackGoes}
+use Rattle.keeps.specs.Change.{HeadMove, isChecked, isSent, isTimed, isAcked, withFlight, FlightMove, recordComes, recordGoes, ackComes, ackGoes, updateComes, updateGoes, uackComes, uackGoes}
 use Rattle.keeps.specs.Change.{withHeld, LinkMove, isWritten, isUpdated, StatusMove, isWaiting, isExpired, isDone, Change, onUp, onSend, onReceive, onHead, onSettle, onFlight, onHeld, onViewlink, onStatus, onRepair, Changes, nothing, then}
 use Rattle.keeps.proofs.Index.{place-same}
 use Rattle.keeps.proofs.Conditions.{taken-when, waiting}
@@ -60,7 +60,7 @@ head-kept : (m : State) → Unbroken m → (a : ℕ) (w : View) → HeadMove m a
 unfolding preChecked timedOut
 head-kept m s a w (isChecked h) = pre-check-kept m s a h
 head-kept m s a w (isSent h) = phase-write m s a (h .actorIn) (h .queued) 3 (omega arith) (omega arith)
-head-kept m s a w (isMoved p t) = timeout-kept m s a p t
+head-kept m s a w (isTimed p t) = timeout-kept m s a p t
 head-kept m s a w (isAcked p h e c) = phase-write m s a (h .actorIn) (h .queued) 4 (omega arith) (omega arith)
 
 module _ (m : State) (s : Unbroken m) where
@@ -289,7 +289,7 @@ taken-changes m (Send from to own word causes) e c = one m _ (onSend from to own
 taken-changes m (Receive k) e c = one m _ (onReceive k c)
 taken-changes m (PreCheck a) e c = one m _ (onHead a (checkedView m (headView m a)) (isChecked c))
 taken-changes m (SendRecord a) e c = send-record-changes m e a c
-taken-changes m (Timeout a p) e c = one m _ (onHead a (movedView p (headView m a)) (isMoved p c))
+taken-changes m (Timeout a p) e c = one m _ (onHead a (timedView p (headView m a)) (isTimed p c))
 taken-changes m (TakeRecord p k r) e c = take-record-changes m e p k r c
 taken-changes m (TakeAck p k r) e c = take-ack-changes m e p k r c
 taken-changes m (PostCheck a) e c = one m _ (onSettle a c)

@@ -1,14 +1,14 @@
 -- Each kind's number is 0 exactly if its condition holds: one law for each word of a rule, then kind by kind. Assumes nothing.
 use Prim.Native.Nat.{ℕ, _≤_, _<_}
 use mathlib.Core.Path.{_≡_, refl, sym, ap, _∙_}
-use mathlib.Core.Bool.{Bool, true, _||_, not}
+use mathlib.Core.Bool.{Bool, true, _&&_, _||_, not}
 use native.Mathlib.Omega.{arith}
 use Rattle.protocol.specs.Words.{pick, bit}
 use Rattle.protocol.specs.Slots.{number, statusNumber, list, isUp, queue, view, repair, entry, recordCopies, ackCopies, updateCopies, uackCopies}
 use Rattle.protocol.specs.declared.State.{State}
 use Rattle.protocol.specs.declared.Status.{Status}
 use Rattle.protocol.specs.declared.Status.the-variants.{Nothing, ToSend, Waiting, Done}
-use Rattle.unbroken.proofs.Laws.Tests.{by-test, nor-left, nor-right, nor-both}
+use Rattle.unbroken.proofs.Laws.Tests.{by-test, not-both, and-left, and-right, and-both, nor-left, nor-right, nor-both}
 use Rattle.unbroken.proofs.Laws.Every.{below-at, below-each}
 use Rattle.unbroken.proofs.Laws.Says.{Says, Splits, lt-says, eq-says, is-says, le-splits, eq-splits, zero-splits, is-splits, and-says, or-says, not-says, not-splits, un-splits, put-says}
 use Rattle.protocol.specs.Rule.{refused, outside, headView, headIn}
@@ -16,7 +16,7 @@ use Rattle.protocol.specs.Send.{received, causeKnown, causesKnown, sendNo}
 use Rattle.protocol.specs.Receive.{receiveNo}
 use Rattle.protocol.specs.PreCheck.{preCheckNo}
 use Rattle.protocol.specs.SendRecord.{sendRecordNo}
-use Rattle.protocol.specs.Timeout.{timeoutNo}
+use Rattle.protocol.specs.Timeout.{isSpent, timeoutNo}
 use Rattle.protocol.specs.TakeRecord.{takeRecordNo}
 use Rattle.protocol.specs.TakeAck.{takeAckNo}
 use Rattle.protocol.specs.PostCheck.{postCheckNo}
@@ -60,6 +60,15 @@ or-splits {a} {b} x y =
       holds = is-says (a || b);
       fails = λ e. (x .fails (nor-left a b e), y .fails (nor-right a b e));
       failed = λ p. nor-both a b (x .failed (p .0)) (y .failed (p .1));
+    }
+
+-- a test that fails exactly if the second of its parts does where the first holds
+both-splits : {a b : Bool} {A B N M : Type 0} → Splits a A N → Splits b B M → Splits (a && b) (A × B) (A → M)
+both-splits {a} {b} x y =
+    record {
+      holds = and-says (x .holds) (y .holds);
+      fails = λ e h. by-test b (λ f. not-both (a && b) (and-both a b (x .holds .told h) f) e) (λ f. y .fails f);
+      failed = λ g. by-test (a && b) (λ e. not-both b (and-right a b e) (y .failed (g (x .holds .tells (and-left a b e))))) (λ e. e);
     }
 
 -- a test that refuses where its fact doesn't hold
@@ -146,15 +155,18 @@ module _ (m : State) where
       (λ s. (s .keyIn, (s .unreceived, tt)))
 
   -- 5
+  pub spent-splits : (a p : ℕ) → Splits (isSpent p (headView m a)) ((headView m a .store ≡ p) × (3 ≤ headView m a .tries)) (headView m a .store ≡ p → headView m a .tries < 3)
+  spent-splits a p = both-splits (eq-splits (headView m a .store) p) (le-splits 3 (headView m a .tries))
+
   timeout-zero : (a p : ℕ) → Zero (timeoutNo m a p) (TimeoutTaken m a p)
   unfolding timeoutNo
   timeout-zero a p =
       zero-put
       (zero-refused (omega arith) (or-splits (inside a (m .actors)) (inside p (m .stores)))
       (zero-refused (omega arith) (unless (head-says 3 m a))
-      (zero-refused (omega arith) (or-splits (unless (is-says (bit (list m a) p))) (eq-splits (headView m a .store) p)) zero-taken)))
-      (λ x. record { head = record { actorIn = x .0 .0; queued = x .1 .0 .0; headPhase = x .1 .0 .1 }; storeIn = x .0 .1; listed = x .1 .1 .0 .0; moves = x .1 .1 .0 .1 })
-      (λ s. ((s .head .actorIn, s .storeIn), ((s .head .queued, s .head .headPhase), ((s .listed, s .moves), tt))))
+      (zero-refused (omega arith) (or-splits (unless (is-says (bit (list m a) p))) (spent-splits a p)) zero-taken)))
+      (λ x. record { head = record { actorIn = x .0 .0; queued = x .1 .0 .0; headPhase = x .1 .0 .1 }; storeIn = x .0 .1; listed = x .1 .1 .0 .0; tries = x .1 .1 .0 .1 })
+      (λ s. ((s .head .actorIn, s .storeIn), ((s .head .queued, s .head .headPhase), ((s .listed, s .tries), tt))))
 
   -- 6
   take-record-zero : (p k r : ℕ) → Zero (takeRecordNo m p k r) (TakeRecordTaken m p k r)

@@ -25,6 +25,7 @@ use Rattle.unbroken.proofs.Laws.Room.{made-view}
 use Rattle.unbroken.proofs.Laws.Says.{Says, eq-says, eq-splits, is-splits, zero-splits, and-says, not-says, put-says}
 use Rattle.protocol.specs.Views.{phased}
 use Rattle.protocol.specs.Rule.{head, headView}
+use Rattle.protocol.specs.Timeout.{isCurrent}
 use Rattle.protocol.specs.Send.{sentView, awaitedView, sent}
 use Rattle.protocol.specs.Receive.{receivedView, receivedOf}
 use Rattle.protocol.specs.TakeRecord.{writtenContents, writtenLinks}
@@ -32,7 +33,7 @@ use Rattle.protocol.specs.PostCheck.{askedRepair, postChecked}
 use Rattle.protocol.specs.TakeRepair.{entered, repairedEntry, redirectedEntry, repairTaken}
 use Rattle.protocol.specs.SendUpdate.{inStatus}
 use Rattle.keeps.specs.Taken.{HeadIn, SendTaken, ReceiveTaken, TakeRepairTaken}
-use Rattle.keeps.specs.Change.{HeadMove, isChecked, isSent, isMoved, isAcked, withFlight, withHeld, LinkMove, isWritten, isUpdated, StatusMove, isWaiting, isExpired, isDone}
+use Rattle.keeps.specs.Change.{HeadMove, isChecked, isSent, isTimed, isAcked, withFlight, withHeld, LinkMove, isWritten, isUpdated, StatusMove, isWaiting, isExpired, isDone}
 use Rattle.keeps.specs.Change.{Change, onUp, onSend, onReceive, onHead, onSettle, onFlight, onHeld, onViewlink, onStatus, onRepair}
 use Rattle.keeps.specs.Onward.{ViewOn, Onward, Resting, Closed, ClosedSays, StepOnward, ClosedStays}
 use Rattle.keeps.proofs.Index.{at-index, at-place, at-links-place}
@@ -140,7 +141,7 @@ head-on m a w (isSent h) =
       unmoved = λ b. refl;
       settled = λ f. absurd (omega arith);
     }
-head-on m a w (isMoved p t) =
+head-on m a w (isTimed p t) =
     let e = t .head .headPhase in
     record {
       actor = refl;
@@ -148,7 +149,7 @@ head-on m a w (isMoved p t) =
       word = λ b. refl;
       causes = λ b. refl;
       viewlink = λ b. refl;
-      changed = λ b f. refl;
+      changed = λ b f. pick-case (λ (c : Bool). c ≡ true) (isCurrent p (headView m a)) (headView m a .changed) true (λ e. f) (λ e. refl);
       links = λ b. refl;
       store = λ b. absurd (omega arith);
       unmoved = λ b. absurd (omega arith);
@@ -245,7 +246,7 @@ module _ (m : State) (s : Unbroken m) where
   head-place : (a : ℕ) (w : View) → HeadMove m a w → head m a < 32
   head-place a w (isChecked h) = head-32 m s a (h .actorIn) (h .queued)
   head-place a w (isSent h) = head-32 m s a (h .actorIn) (h .queued)
-  head-place a w (isMoved p t) = head-32 m s a (t .head .actorIn) (t .head .queued)
+  head-place a w (isTimed p t) = head-32 m s a (t .head .actorIn) (t .head .queued)
   head-place a w (isAcked p h e c) = head-32 m s a (h .actorIn) (h .queued)
 
   settle-onward : (a : ℕ) → HeadIn 4 m a → Onward m (postChecked m a)

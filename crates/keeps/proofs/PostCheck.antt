@@ -116,7 +116,7 @@ module _ (m : State) (s : Unbroken m) (a : ℕ) (ha : a < m .actors) (some : 1 �
   left-kept =
       let from = head-from m s a ha some in
       let old = s .viewAt (head m a) v-32 in
-      let x = head-slot m s a ha some 5 _ _ _ (omega arith) (omega arith) (old .storeIn from) (old .causes) in
+      let x = head-slot m s a ha some 5 _ _ _ _ (omega arith) (omega arith) (old .storeIn from) (old .tries3 from) (old .causes) in
       jobs-kept m s (m .made) views queues (m .messages)
       (views-long m s (head m a) v-32 w refl) (length-set (m .queues) a (left (queue m a)) ∙ s .sized .queues) (s .sized .messages) (s .made16) (omega arith)
       (one-job m s (head m a) v-32 w refl (moved-job m s (head m a) v-32 (head-to m s a ha some) (m .made) (view m (head m a - 1) .actor) w x (λ h. (omega arith, refl, refl, refl, refl))))

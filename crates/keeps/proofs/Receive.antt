@@ -47,6 +47,7 @@ module _ (m : State) (s : Unbroken m) (k : ℕ) (hk : k < m .made) (old : view m
         causes = no-causes (m .stores) (v / 2);
         storeIn = λ b. home-in m s a a-in;
         viewlinkIn = λ b. g .ownIn (g .sent hk old);
+        tries3 = λ b. omega arith;
         unset = λ e. absurd (omega arith);
         actorIn = λ b. a-in;
         phase5 = λ b. omega arith;

@@ -85,6 +85,7 @@ module _ (m : State) (s : Unbroken m) (from to own word causes : ℕ) (c : SendT
         };
         storeIn = λ h. c .ownIn;
         viewlinkIn = λ h. home-in m s to (c .toIn);
+        tries3 = λ h. omega arith;
         unset = λ e. absurd (omega arith);
         actorIn = λ h. c .fromIn;
         phase5 = λ h. omega arith;
@@ -101,6 +102,7 @@ module _ (m : State) (s : Unbroken m) (from to own word causes : ℕ) (c : SendT
         causes = no-causes (m .stores) (number k 1 / 2);
         storeIn = λ h. absurd (omega arith);
         viewlinkIn = λ h. absurd (omega arith);
+        tries3 = λ h. absurd (omega arith);
         unset = λ e. refl;
         actorIn = λ h. c .toIn;
         phase5 = λ h. omega arith;
@@ -119,6 +121,7 @@ module _ (m : State) (s : Unbroken m) (from to own word causes : ℕ) (c : SendT
         causes = o .causes;
         storeIn = o .storeIn;
         viewlinkIn = o .viewlinkIn;
+        tries3 = o .tries3;
         unset = o .unset;
         actorIn = λ b. o .actorIn (omega arith);
         phase5 = λ b. o .phase5 (omega arith);

@@ -98,10 +98,10 @@ pub data Applies (m : State) : Step → ℕ → Type 0 where
   restartUp : (p : ℕ) → isUp m p ≡ true → Applies m (Restart p) 6
   -- 7 the phase, status or copy that the rule needs isn't there
   isMissing : {s : Step} → (Needs m s → ⊥) → Applies m s 7
-  -- 8 store not in the list, or in a timeout the current one
+  -- 8 store not in the list, or in a timeout the current one at three tries
   ownUnlisted : (from to own word causes : ℕ) → bit (list m from) own ≡ false → Applies m (Send from to own word causes) 8
   timeoutUnlisted : (a p : ℕ) → bit (list m a) p ≡ false → Applies m (Timeout a p) 8
-  timeoutCurrent : (a p : ℕ) → headView m a .store ≡ p → Applies m (Timeout a p) 8
+  timeoutCurrent : (a p : ℕ) → headView m a .store ≡ p → 3 ≤ headView m a .tries → Applies m (Timeout a p) 8
   -- 9 a cause that from hasn't received, or that isn't made
   unreceived : (from to own word causes j : ℕ) → j < 16 → bit causes j ≡ true → (ReceivedBy m from j → ⊥) → Applies m (Send from to own word causes) 9
 

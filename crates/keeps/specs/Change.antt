@@ -16,7 +16,7 @@ use Rattle.protocol.specs.Rule.{head, headView, more}
 use Rattle.protocol.specs.Send.{sent}
 use Rattle.protocol.specs.Receive.{receivedOf}
 use Rattle.protocol.specs.PreCheck.{checkedView}
-use Rattle.protocol.specs.Timeout.{movedView}
+use Rattle.protocol.specs.Timeout.{timedView}
 use Rattle.protocol.specs.TakeRecord.{writtenContents, writtenLinks, writtenViewlink}
 use Rattle.protocol.specs.PostCheck.{postChecked}
 use Rattle.protocol.specs.TakeRepair.{repairTaken}
@@ -27,7 +27,7 @@ use Rattle.keeps.specs.Taken.{HeadIn, ViewOf, PlaceOf, SendTaken, Receiv
 pub data HeadMove (m : State) (a : ℕ) : View → Type 0 where
   isChecked : HeadIn 1 m a → HeadMove m a (checkedView m (headView m a))
   isSent : HeadIn 2 m a → HeadMove m a (phased 3 (headView m a))
-  isMoved : (p : ℕ) → TimeoutTaken m a p → HeadMove m a (movedView p (headView m a))
+  isTimed : (p : ℕ) → TimeoutTaken m a p → HeadMove m a (timedView p (headView m a))
   isAcked : (p : ℕ) → HeadIn 3 m a → headView m a .store ≡ p → 1 ≤ ackCopies m p (head m a) → HeadMove m a (phased 4 (headView m a))
 
 -- the copies in flight, of all four

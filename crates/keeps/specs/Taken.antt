@@ -49,12 +49,12 @@ pub record ReceiveTaken (m : State) (k : ℕ) : Type 0 where
   pub keyIn : k < m .made
   pub unreceived : view m (number k 1) .phase ≡ 0
 
--- 5 timeout: head in phase 3; the store is in the list and not the current one
+-- 5 timeout: head in phase 3; the store is in the list; the current one may be named up to three times
 pub record TimeoutTaken (m : State) (a p : ℕ) : Type 0 where
   pub head : HeadIn 3 m a
   pub storeIn : p < m .stores
   pub listed : bit (list m a) p ≡ true
-  pub moves : headView m a .store ≢ p
+  pub tries : headView m a .store ≡ p → headView m a .tries < 3
 
 -- 6 store takes record: store up, a copy in flight
 pub record TakeRecordTaken (m : State) (p k r : ℕ) : Type 0 where

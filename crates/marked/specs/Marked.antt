@@ -58,6 +58,9 @@ onM steps facts next = record { setup = setupWith 5; answer = 0; steps = steps; 
 abbrev pub S : Step
 S = Send 0 1 0 7 0
 
+abbrev pub triesAgain : List Asked
+triesAgain = (SendRecord 0 ⇒ 0) ∷ (Timeout 0 0 ⇒ 0) ∷ []
+
 abbrev pub preparesRecord : ℕ → List Asked
 preparesRecord a = (PreCheck a ⇒ 0) ∷ (SendRecord a ⇒ 0) ∷ []
 
@@ -84,8 +87,8 @@ rows =
     rests
     -- W6 send 0 to 0: 3. Own store 1 for actor 0: 8.
     ∷ onM ((Send 0 0 0 7 0 ⇒ 3) ∷ (Send 0 1 1 7 0 ⇒ 8) ∷ []) [] rests
-    -- W7 timeout in phase 2: 7; in phase 3 to the current store: 8.
-    ∷ onM ((S ⇒ 0) ∷ (PreCheck 0 ⇒ 0) ∷ (Timeout 0 2 ⇒ 7) ∷ (SendRecord 0 ⇒ 0) ∷ (Timeout 0 0 ⇒ 8) ∷ []) [] rests
+    -- W7 timeout in phase 2: 7; in phase 3 to the current store: taken three times with a send between, then 8 (K1).
+    ∷ onM ((S ⇒ 0) ∷ (PreCheck 0 ⇒ 0) ∷ (Timeout 0 2 ⇒ 7) ∷ triesAgain ++ triesAgain ++ triesAgain ++ (SendRecord 0 ⇒ 0) ∷ (Timeout 0 0 ⇒ 8) ∷ []) [] rests
     -- W8 after S, actor 1 sends with cause 0: 9; after receive: taken.
     ∷ onM ((S ⇒ 0) ∷ (Send 1 0 1 7 1 ⇒ 9) ∷ (Receive 0 ⇒ 0) ∷ (Send 1 0 1 7 1 ⇒ 0) ∷ []) [] rests
     -- W9 sixteen sends taken, the next 4; the next from 0 to 0: 3.

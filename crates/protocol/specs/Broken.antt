@@ -45,12 +45,12 @@ linkFine stores key causes j link = pick (bit causes j) (ltb j key && ltb link s
 unfoldable pub linksFine : ℕ → ℕ → ℕ → List ℕ → Bool
 linksFine stores key causes l = eqb (length l) 16 && all (linkFine stores key causes) l
 
--- in phase 0 just the actor is set; else the current store and the viewlink name stores
+-- in phase 0 just the actor is set; else the current store and the viewlink name stores, and a try number above 3 is broken
 abbrev pub isUnset : View → Bool
-isUnset w = eqb (w .store) 0 && eqb (w .viewlink) 0 && not (w .changed) && eqb (w .causes) 0 && eqb (w .word) 0
+isUnset w = eqb (w .store) 0 && eqb (w .viewlink) 0 && not (w .changed) && eqb (w .tries) 0 && eqb (w .causes) 0 && eqb (w .word) 0
 
 abbrev pub phaseFine : ℕ → View → Bool
-phaseFine stores w = pick (eqb (w .phase) 0) (isUnset w) (ltb (w .store) stores && ltb (w .viewlink) stores)
+phaseFine stores w = pick (eqb (w .phase) 0) (isUnset w) (ltb (w .store) stores && ltb (w .viewlink) stores && leb (w .tries) 3)
 
 -- phase 0 is for receivers only; a receiver has no causes; sender equals receiver
 abbrev pub roleFine : ℕ → ℕ → View → Bool

@@ -14,6 +14,8 @@ pub struct View {
     pub store: u8,
     pub viewlink: u8,
     pub changed: bool,
+    // How often the current store was tried again, 0 to 3.
+    pub tries: u8,
     // Bit k for interaction k, and a link for each cause; a receiver has none.
     pub causes: u16,
     pub word: u32,
@@ -31,6 +33,7 @@ pub fn unset_view(actor: u8) -> View
         store: 0,
         viewlink: 0,
         changed: false,
+        tries: 0,
         causes: 0,
         word: 0,
         links,

@@ -55,7 +55,7 @@ pub up-writer : Writer (λ (s : Store). s .up) turned
 up-writer = record { reads = λ s a. refl; same = λ s. refl; last = λ s a b. refl }
 
 -- of a view: all that a rule writes in it, its phase, its cause links
-pub view-writer : Writer {A = (ℕ × ℕ) × (Bool × List ℕ)} (λ (w : View). ((w .phase, w .store), (w .changed, w .links))) (λ w a. rewritten (a .0 .0) (a .0 .1) (a .1 .0) (a .1 .1) w)
+pub view-writer : Writer {A = (ℕ × ℕ) × ((Bool × ℕ) × List ℕ)} (λ (w : View). ((w .phase, w .store), ((w .changed, w .tries), w .links))) (λ w a. rewritten (a .0 .0) (a .0 .1) (a .1 .0 .0) (a .1 .0 .1) (a .1 .1) w)
 view-writer = record { reads = λ w a. refl; same = λ w. refl; last = λ w a b. refl }
 
 pub phase-writer : Writer (λ (w : View). w .phase) (λ w n. phased n w)

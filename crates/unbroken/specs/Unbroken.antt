@@ -79,6 +79,7 @@ pub record ViewSlot (stores actors made sender v : ℕ) (w : View) : Type 0 wher
   pub senderMade : v < made * 2 → v % 2 ≡ 0 → 1 ≤ w .phase
   pub receiverCauses : v < made * 2 → v % 2 ≡ 1 → w .causes ≡ 0
   -- a number is outside what is said above
+  pub tries3 : 1 ≤ w .phase → w .tries ≤ 3
   pub actorIn : v < made * 2 → w .actor < actors
   pub phase5 : v < made * 2 → w .phase ≤ 5
   -- sender equals receiver

@@ -92,7 +92,7 @@ fn queue(mut m: State, n: [u8; 64]) -> State {
     m
 }
 
-// V key role actor phase data store viewlink changed causes link: the link is that of cause 0.
+// V key role actor phase data store viewlink changed causes link tries: the link is that of cause 0.
 fn view(mut m: State, n: [u8; 64]) -> State {
     let v = view_at(n[1], n[2]);
     let links = one_link(n[10]);
@@ -102,6 +102,7 @@ fn view(mut m: State, n: [u8; 64]) -> State {
         store: n[6],
         viewlink: n[7],
         changed: n[8] == 1,
+        tries: n[11],
         causes: n[9] as u16,
         word: n[5] as u32,
         links: links,

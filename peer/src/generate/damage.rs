@@ -2,7 +2,7 @@
 
 use super::draft::Draft;
 use crate::book::MAX_STEPS;
-use crate::machine::ActorSetup;
+use crate::machine::{ActorSetup, Phase};
 use crate::programs::MAX_INPUT;
 use crate::step::{fields, Field, Step, KINDS};
 
@@ -14,6 +14,7 @@ impl Draft {
             match self.random.below(6) {
                 0 => self.near_miss(),
                 1 if self.random.one_in(4) => self.repeat(),
+                2 if self.random.one_in(2) => self.try_again(),
                 _ => self.run(1),
             }
         }
@@ -31,6 +32,14 @@ impl Draft {
             _ => self.random.below(9) as u32,
         };
         self.add(Step::from_values(kind, &values));
+    }
+
+    /// The current store of a view that is sent is named, also where that is a try too many.
+    fn try_again(&mut self) {
+        let actor = self.random.below(self.machine.actor_count.into()) as u8;
+        if let Some(head) = self.machine.head_in(actor, Phase::Sent) {
+            self.add(Step::Timeout { actor, store: self.machine.record(head).store });
+        }
     }
 
     /// The step before once more.

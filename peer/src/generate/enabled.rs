@@ -1,6 +1,6 @@
 //! Which steps of a kind a machine takes.
 
-use crate::machine::{members, Machine, Phase, Status, View, What};
+use crate::machine::{members, Machine, Phase, Record, Status, View, What, MAX_TRIES};
 use crate::step::Step;
 
 /// Every step of that kind that the machine takes; sends aside, which are too many to list.
@@ -51,10 +51,12 @@ fn heads(machine: &Machine, phase: Phase) -> impl Iterator<Item = u8> + '_ {
 fn timeouts(machine: &Machine) -> Vec<Step> {
     let mut steps = Vec::new();
     for actor in heads(machine, Phase::Sent) {
-        let current = machine.head(actor).map(|view| machine.record(view).store);
+        let head = machine.head(actor).map(|view| machine.record(view));
+        let at = |record: &Record, store| record.store == store && record.tries == MAX_TRIES;
+        let tried_out = |store| head.is_some_and(|record| at(record, store));
         let list = machine.actors[usize::from(actor)].list;
-        let others = members(list.into()).filter(|&store| Some(store) != current);
-        steps.extend(others.map(|store| Step::Timeout { actor, store }));
+        let possible = members(list.into()).filter(|&store| !tried_out(store));
+        steps.extend(possible.map(|store| Step::Timeout { actor, store }));
     }
     steps
 }

@@ -1,10 +1,10 @@
 //! Books that aim at something that random legal steps seldom reach.
 //!
-//! A story adds only steps that are taken. An interlude may take one of them away, so that a
+//! A story adds only steps that are taken, but for sends and tries that are one too many. An interlude may take one of them away, so that a
 //! story misses its aim in some books; the coverage shows that others reach it.
 
 use super::draft::Draft;
-use crate::machine::{members, Machine, Phase, View, What, MAX_COPIES};
+use crate::machine::{members, Machine, Phase, View, What, MAX_COPIES, MAX_TRIES};
 use crate::step::Step;
 
 impl Draft {
@@ -111,6 +111,37 @@ impl Draft {
         }
         let steps = self.random.between(0, 40);
         self.run(steps);
+    }
+
+    /// A job that stays with its store until a try is refused, moves, and stays again.
+    pub fn tries(&mut self) {
+        self.interlude();
+        let view = self.fresh_view();
+        let actor = self.machine.record(view).actor;
+        let stays = self.random.between(1, 3);
+        for _ in 0..stays {
+            self.stay(actor);
+            if let Some(head) = self.machine.head_in(actor, Phase::Sent) {
+                let store = self.other_store(actor, self.machine.record(head).store);
+                self.add_if_taken(Step::Timeout { actor, store });
+            }
+        }
+        let steps = self.random.between(0, 40);
+        self.run(steps);
+    }
+
+    /// Names the current store of the actor's head once more than it may be named.
+    fn stay(&mut self, actor: u8) {
+        for _ in 0..=MAX_TRIES {
+            self.add_if_taken(Step::PreCheck { actor });
+            self.add_if_taken(Step::SendRecord { actor });
+            let Some(view) = self.machine.head_in(actor, Phase::Sent) else { return };
+            let store = self.machine.record(view).store;
+            if self.random.one_in(4) {
+                self.add_if_taken(Step::TakeRecord { store, view });
+            }
+            self.add(Step::Timeout { actor, store });
+        }
     }
 
     /// Sixteen interactions and sends that come too late.

@@ -70,6 +70,8 @@ fn numbers_outside_what_is_said() {
         |m| place(m, 1, 0, 0).copies[What::Uack as usize] = 255,
         |m| record(m, 2, 1).actor = 2,
         |m| record(m, 0, 0).actor = 200,
+        |m| record(m, 0, 0).tries = 4,
+        |m| record(m, 2, 0).tries = 255,
     ]);
 }
 
@@ -101,6 +103,7 @@ fn unused_slots_that_arent_blank() {
         |m| m.interactions[3].application = Some(Application { own: 0, data: 0 }),
         |m| record(m, 3, 0).data = 1,
         |m| record(m, 15, 1).changed = true,
+        |m| record(m, 3, 0).tries = 1,
         |m| m.side_mut(View::sender(3)).repair = Some(REPAIR),
         |m| m.side_mut(View::receiver(3)).entry = Some(ENTRY),
         |m| place(m, 0, 3, 0).viewlink = Some(0),
@@ -113,6 +116,7 @@ fn unused_slots_that_arent_blank() {
         |m| record(m, 2, 1).store = 1,
         |m| record(m, 2, 1).viewlink = 1,
         |m| record(m, 2, 1).changed = true,
+        |m| record(m, 2, 1).tries = 1,
         |m| record(m, 2, 1).causes = 1,
         |m| record(m, 0, 1).causes = 1,
     ]);
@@ -204,6 +208,8 @@ fn what_readings_7_lets_pass() {
         |m| m.interactions[1].application = Some(Application { own: 2, data: 99 }),
         |m| record(m, 0, 0).store = 1,
         |m| record(m, 2, 0).changed = true,
+        |m| record(m, 2, 0).tries = 3,
+        |m| record(m, 0, 0).tries = 3,
         |m| place(m, 2, 0, 0).contents = None,
         |m| m.side_mut(View::sender(0)).repair = Some(REPAIR),
         |m| place(m, 0, 2, 1).viewlink = Some(2),

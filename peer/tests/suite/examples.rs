@@ -8,12 +8,13 @@ use peer::pair::pair;
 use peer::programs::{inspect, recorder};
 use peer::text;
 
-const EXAMPLES: [&str; 6] = [
+const EXAMPLES: [&str; 7] = [
     "crash-and-restart",
     "lost-acknowledgement",
     "lost-record",
     "right-pair",
     "rollback",
+    "slow-answer",
     "wrong-pair",
 ];
 
@@ -54,6 +55,15 @@ fn the_rollback_finds_the_pair_after_the_drain() {
     let (before, after) = inspection.split_once("drain 0 ").expect("a drain that is taken");
     assert!(before.contains("\nW 2 13\n"));
     assert!(after.contains("\nW 2 0 3 5 2 0 1\n"));
+}
+
+#[test]
+fn the_slow_answer_keeps_the_job_at_its_store_without_a_repair() {
+    let inspection = String::from_utf8(kept("slow-answer", "inspect")).expect("lines of text");
+    let (store, changed, tries) = (0, 0, 2);
+    assert!(inspection.contains(&format!("\nV 0 0 0 5 7 {store} 1 {changed} {tries} 0\n")));
+    assert!(!inspection.lines().any(|line| line.starts_with("R ") || line.starts_with("E ")));
+    assert!(inspection.contains("\ndrain 0 0\n"));
 }
 
 #[test]

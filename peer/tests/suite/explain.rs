@@ -76,9 +76,10 @@ fn the_phase_that_is_there_is_named() {
     assert_eq!(told_last(&format!("{M}{S} pre-check 0 \n timeout 0 store 2")), not_sent);
     assert_eq!(told_last(&format!("{M} post-check 1")), "7: no view waits in actor 1's queue");
     let sent = format!("{M}{S} pre-check 0 \n send-record 0 \n");
+    let tried_out = format!("{sent}{}", "timeout 0 store 0 \n send-record 0 \n".repeat(3));
     assert_eq!(
-        told_last(&format!("{sent} timeout 0 store 0")),
-        "8: store 0 is the current store of key 0 role 0"
+        told_last(&format!("{tried_out} timeout 0 store 0")),
+        "8: key 0 role 0 has tried its current store 0 again 3 times, and has to leave it"
     );
     assert_eq!(
         told_last(&format!("{sent} timeout 0 store 1")),

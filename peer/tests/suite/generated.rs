@@ -2,7 +2,7 @@
 
 use peer::book::{self, Book, MAX_STEPS};
 use peer::coverage::Coverage;
-use peer::generate::generate;
+use peer::generate::{generate, LEGAL_STYLES, STYLES};
 use peer::machine::{members, Machine, View};
 use peer::refusal::Refusal;
 use peer::step::Step;
@@ -94,7 +94,7 @@ fn after_a_drain_every_walk_meets_what_led_to_its_key() {
 
 #[test]
 fn legal_styles_have_legal_books() {
-    for seed in (0..400).filter(|seed| seed % 20 < 10) {
+    for seed in (0..400).filter(|seed| seed % STYLES < LEGAL_STYLES) {
         let bytes = generate(seed);
         let steps = Book::read(&bytes).expect("the book is well formed").steps.len();
         let mut answers = vec![9; steps];

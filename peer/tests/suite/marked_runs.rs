@@ -2,7 +2,7 @@
 
 use crate::common::{run, M, S};
 use peer::book;
-use peer::machine::{Machine, Phase, View};
+use peer::machine::{Machine, Phase, Record, View};
 use peer::refusal::Refusal;
 use peer::text;
 use peer::walk::Walk;
@@ -93,15 +93,18 @@ fn w6_sends_that_are_refused() {
 }
 
 #[test]
-fn w7_timeouts_that_are_refused() {
-    let (_, answers) = run(&format!(
+fn w7_three_tries_at_the_current_store() {
+    let try_again = "send-record 0 \n timeout 0 store 0 \n";
+    let (machine, answers) = run(&format!(
         "{M}{S}
         pre-check 0
         timeout 0 store 2
-        send-record 0
-        timeout 0 store 0"
+        {}",
+        try_again.repeat(4)
     ));
-    assert_eq!(answers, [0, 0, 7, 0, 8]);
+    assert_eq!(answers, [0, 0, 7, 0, 0, 0, 0, 0, 0, 0, 8]);
+    let Record { store, changed, tries, phase, .. } = *machine.record(SENDER);
+    assert_eq!((store, changed, tries, phase), (0, false, 3, Phase::Sent));
 }
 
 #[test]

@@ -2,7 +2,7 @@
 
 use crate::common::{run, M, S};
 use peer::book::{self, Book, MAX_STEPS};
-use peer::machine::{ActorSetup, Machine};
+use peer::machine::{ActorSetup, Machine, View};
 use peer::refusal::{number, Refusal};
 use peer::step::{fields, Step, KINDS};
 
@@ -17,9 +17,28 @@ fn a_missing_phase_comes_before_a_store_outside_the_list() {
     assert_eq!(last_answer(&format!("{M}{S} timeout 0 store 1")), 7);
     let sent = format!("{M}{S} pre-check 0 \n send-record 0 \n");
     assert_eq!(last_answer(&format!("{sent} timeout 0 store 1")), 8);
-    assert_eq!(last_answer(&format!("{sent} timeout 0 store 0")), 8);
+    assert_eq!(last_answer(&format!("{sent} timeout 0 store 0")), 0);
     assert_eq!(last_answer(&format!("{sent} timeout 0 store 3")), 2);
     assert_eq!(last_answer(&format!("{sent} timeout 0 store 2")), 0);
+}
+
+#[test]
+fn a_move_sets_the_tries_back() {
+    let try_at = |store: u8| format!("send-record 0 \n timeout 0 store {store} \n");
+    let tried_out = format!("{M}{S} pre-check 0 \n {}", try_at(0).repeat(3));
+    assert_eq!(last_answer(&format!("{tried_out}{}", try_at(0))), 8);
+    let back = format!("{tried_out}{}{}", try_at(2), try_at(0));
+    assert_eq!(last_answer(&format!("{back}{}", try_at(0).repeat(3))), 0);
+    assert_eq!(last_answer(&format!("{back}{}", try_at(0).repeat(4))), 8);
+    assert_eq!(last_answer(&format!("{tried_out} timeout 0 store 0")), 7);
+}
+
+#[test]
+fn a_current_store_outside_the_list_is_refused_before_any_try() {
+    let (mut machine, _) = run(&format!("{M}{S} pre-check 0 \n send-record 0"));
+    machine.side_mut(View::sender(0)).record.store = 1;
+    let step = Step::Timeout { actor: 0, store: 1 };
+    assert_eq!(machine.take(step), Err(Refusal::NotListed));
 }
 
 #[test]

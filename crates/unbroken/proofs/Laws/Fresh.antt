@@ -53,6 +53,7 @@ blank-view stores actors sender v h =
       causes = no-causes stores (v / 2);
       storeIn = λ b. absurd (omega arith);
       viewlinkIn = λ b. absurd (omega arith);
+      tries3 = λ b. absurd (omega arith);
       unset = λ b. refl;
       actorIn = λ b. absurd (omega arith);
       phase5 = λ b. absurd (omega arith);

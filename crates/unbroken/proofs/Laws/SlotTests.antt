@@ -42,25 +42,28 @@ links-says stores key causes l =
 
 -- a view of which just the actor is set
 abbrev UnsetFacts : View → Type 0
-UnsetFacts w = ((((w .store ≡ 0) × (w .viewlink ≡ 0)) × (w .changed ≡ false)) × (w .causes ≡ 0)) × (w .word ≡ 0)
+UnsetFacts w = (((((w .store ≡ 0) × (w .viewlink ≡ 0)) × (w .changed ≡ false)) × (w .tries ≡ 0)) × (w .causes ≡ 0)) × (w .word ≡ 0)
 
 unset-says : (w : View) → Says (isUnset w) (UnsetFacts w)
-unset-says w = and-says (and-says (and-says (and-says (eq-says (w .store) 0) (eq-says (w .viewlink) 0)) (not-says (is-splits (w .changed)))) (eq-says (w .causes) 0)) (eq-says (w .word) 0)
+unset-says w =
+    and-says (and-says (and-says (and-says (and-says (eq-says (w .store) 0) (eq-says (w .viewlink) 0)) (not-says (is-splits (w .changed)))) (eq-says (w .tries) 0)) (eq-says (w .causes) 0))
+    (eq-says (w .word) 0)
 
 unset-view : (w : View) → w .phase ≡ 0 → UnsetFacts w → Unset w
 unset-view w h x =
-    λ i. record { actor = w .actor; phase = h i; store = x .0 .0 .0 .0 i; viewlink = x .0 .0 .0 .1 i; changed = x .0 .0 .1 i; causes = x .0 .1 i; word = x .1 i; links = w .links }
+    λ i. record { actor = w .actor; phase = h i; store = x .0 .0 .0 .0 .0 i; viewlink = x .0 .0 .0 .0 .1 i; changed = x .0 .0 .0 .1 i; tries = x .0 .0 .1 i; causes = x .0 .1 i; word = x .1 i; links = w .links }
 
 unset-facts : (w : View) → Unset w → UnsetFacts w
-unset-facts w e = ((((ap (λ (x : View). x .store) e, ap (λ (x : View). x .viewlink) e), ap (λ (x : View). x .changed) e), ap (λ (x : View). x .causes) e), ap (λ (x : View). x .word) e)
+unset-facts w e =
+    (((((ap (λ (x : View). x .store) e, ap (λ (x : View). x .viewlink) e), ap (λ (x : View). x .changed) e), ap (λ (x : View). x .tries) e), ap (λ (x : View). x .causes) e), ap (λ (x : View). x .word) e)
 
 -- a view
 abbrev PhaseFacts : ℕ → View → Type 0
-PhaseFacts stores w = (w .phase ≡ 0 → UnsetFacts w) × (1 ≤ w .phase → (w .store < stores) × (w .viewlink < stores))
+PhaseFacts stores w = (w .phase ≡ 0 → UnsetFacts w) × (1 ≤ w .phase → ((w .store < stores) × (w .viewlink < stores)) × (w .tries ≤ 3))
 
 phase-says : (stores : ℕ) (w : View) → Says (phaseFine stores w) (PhaseFacts stores w)
 phase-says stores w =
-    pick-says (zero-splits (w .phase)) (unset-says w) (and-says (lt-says (w .store) stores) (lt-says (w .viewlink) stores))
+    pick-says (zero-splits (w .phase)) (unset-says w) (and-says (and-says (lt-says (w .store) stores) (lt-says (w .viewlink) stores)) (le-says (w .tries) 3))
 
 abbrev MadeFacts : ℕ → ℕ → ℕ → ℕ → View → Type 0
 MadeFacts actors made sender v w =
@@ -110,8 +113,9 @@ module _ (stores actors made : ℕ) (views : List View) (queues : List Queue) (v
             linkIn = λ j h b. l .1 j (omega arith) .0 b .1;
             linkBlank = λ j h b. l .1 j (omega arith) .1 b;
           };
-          storeIn = λ h. p .1 h .0;
-          viewlinkIn = λ h. p .1 h .1;
+          storeIn = λ h. p .1 h .0 .0;
+          viewlinkIn = λ h. p .1 h .0 .1;
+          tries3 = λ h. p .1 h .1;
           unset = λ h. unset-view w h (p .0 h);
           actorIn = λ h. d .0 h .0 .0;
           phase5 = λ h. d .0 h .0 .1;
@@ -133,7 +137,7 @@ module _ (stores actors made : ℕ) (views : List View) (queues : List Queue) (v
         (
           (
             (long, λ j h. (λ b. (c .below j (omega arith) b, c .linkIn j (omega arith) b), λ b. c .linkBlank j (omega arith) b)),
-            (λ h. unset-facts w (s .unset h), λ h. (s .storeIn h, s .viewlinkIn h)),
+            (λ h. unset-facts w (s .unset h), λ h. ((s .storeIn h, s .viewlinkIn h), s .tries3 h)),
           ),
           (λ h. ((s .actorIn h, s .phase5 h), (λ r. s .senderMade h r, λ r. (s .receiverCauses h (role v r), s .twoActors h (role v r)))), λ h. (s .actorBlank h, s .phaseBlank h)),
         ),

@@ -13,8 +13,11 @@ returns c = search (tests, c .unset .ensures)
 both-requires : tie.Need-both-requires
 both-requires c κs = search needs
 
+both-requires-2 : tie.Need-both-requires-2
+both-requires-2 c κs = search needs
+
 returns-2 : tie.Need-returns-2
-returns-2 c = search (tests, c .both .ensures)
+returns-2 c = search (tests, c .both2 .ensures, c .before .before .both .ensures)
 
 pub phase-fine-spec : {M : Type 1} → statement M
-phase-fine-spec = tie.close (tie.spec unset-requires returns both-requires returns-2)
+phase-fine-spec = tie.close (tie.spec unset-requires returns both-requires both-requires-2 returns-2)

@@ -1,4 +1,4 @@
--- The five fields, one after another. Assumes nothing.
+-- The six fields, one after another. Assumes nothing.
 use borrow.Author.Needs.{needs}
 use Rattle.broken.proofs.views.unset.Statement.{statement}
 use Rattle.broken.proofs.views.unset.Tie as tie
@@ -15,8 +15,11 @@ both-requires-3 c κs = search needs
 both-requires-4 : tie.Need-both-requires-4
 both-requires-4 c κs = search needs
 
+both-requires-5 : tie.Need-both-requires-5
+both-requires-5 c κs = search needs
+
 returns : tie.Need-returns
-returns c = simp (c .both4 .ensures, c .before .before .both3 .ensures, c .before .before .before .before .both2 .ensures, c .before .before .before .before .before .before .both .ensures)
+returns c = simp (c .both5 .ensures, c .before .before .both4 .ensures, c .before .before .before .before .both3 .ensures, c .before .before .before .before .before .before .both2 .ensures, c .before .before .before .before .before .before .before .before .both .ensures)
 
 pub unset-spec : {M : Type 1} → statement M
-unset-spec = tie.close (tie.spec both-requires both-requires-2 both-requires-3 both-requires-4 returns)
+unset-spec = tie.close (tie.spec both-requires both-requires-2 both-requires-3 both-requires-4 both-requires-5 returns)
