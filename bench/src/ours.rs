@@ -29,7 +29,9 @@ mod library {
 /// One run of a book by the library: its number.
 pub fn run(book: &[u8], answers: &mut [u8]) -> u8 {
     // SAFETY: both slices live through the call, and each length is its slice's.
-    unsafe { library::tautlichen_run(book.as_ptr(), book.len(), answers.as_mut_ptr(), answers.len()) }
+    unsafe {
+        library::tautlichen_run(book.as_ptr(), book.len(), answers.as_mut_ptr(), answers.len())
+    }
 }
 
 /// How many turns found the machine after a book broken.
@@ -59,9 +61,7 @@ pub fn drain(book: &[u8], at: u8, times: u32) -> u32 {
 /// The numbers of the turns' steps, and each time the interactions made. The step is as a book has it.
 pub fn step(book: &[u8], step: &[u8], at: u8, times: u32) -> u32 {
     // SAFETY: both slices live through the call, and each length is its slice's.
-    unsafe {
-        library::bench_step(book.as_ptr(), book.len(), step.as_ptr(), step.len(), at, times)
-    }
+    unsafe { library::bench_step(book.as_ptr(), book.len(), step.as_ptr(), step.len(), at, times) }
 }
 
 /// The same, without the test for a broken value in each turn.

@@ -16,7 +16,7 @@ impl Machine {
             && self.unused_slots_are_blank()
             && (0..self.interaction_count).all(|key| self.interaction_is_sound(key))
             && self.views().all(|view| self.view_is_sound(view))
-            && (0..self.actor_count).all(|actor| self.queue_is_sound(actor))
+            && self.queues_are_sound()
     }
 
     fn counts_are_sound(&self) -> bool {
@@ -57,7 +57,6 @@ impl Machine {
         self.record_is_sound(view)
             && self.repair_is_sound(view)
             && (0..self.store_count).all(|store| self.place_is_sound(store, view))
-            && self.stands_in_queue_as_its_phase_says(view)
     }
 
     fn record_is_sound(&self, view: View) -> bool {
@@ -110,24 +109,37 @@ impl Machine {
             && place.viewlink.is_none_or(|link| self.names_store(link))
     }
 
-    /// Once in its own actor's queue in phases 1 to 4, and else not at all.
-    fn stands_in_queue_as_its_phase_says(&self, view: View) -> bool {
-        let record = self.record(view);
-        let queue = &self.actors[usize::from(record.actor)].queue;
-        let waits = (Phase::Queued..=Phase::Acknowledged).contains(&record.phase);
-        let stands = queue.iter().filter(|&&queued| queued == view).count();
-        stands == usize::from(waits)
+    /// In the queues stand exactly the views in phases 1 to 4, each once. One pass marks the views
+    /// met: a view has one actor, so one word of 32 bits serves all queues.
+    fn queues_are_sound(&self) -> bool {
+        let mut met = 0;
+        for actor in 0..self.actor_count {
+            let queue = &self.actors[usize::from(actor)].queue;
+            for (place, &view) in queue.iter().enumerate() {
+                if !self.stands_well(actor, view, place > 0) || met & mark(view) != 0 {
+                    return false;
+                }
+                met |= mark(view);
+            }
+        }
+        let waits = |view: &View| self.record(*view).waits();
+        met == self.views().filter(waits).fold(0, |waiting, view| waiting | mark(view))
     }
 
-    /// Only views of this machine and of this actor, and all behind the head in phase 1.
-    fn queue_is_sound(&self, actor: u8) -> bool {
-        let queue = &self.actors[usize::from(actor)].queue;
-        let is_made = |view: &View| view.key < self.interaction_count && view.role <= 1;
-        queue.iter().all(|view| is_made(view) && self.record(*view).actor == actor)
-            && queue.iter().skip(1).all(|view| self.record(*view).phase == Phase::Queued)
+    /// A view of this machine and of this actor, and in phase 1 if it is behind the head.
+    fn stands_well(&self, actor: u8, view: View, behind_head: bool) -> bool {
+        let is_made = view.key < self.interaction_count && view.role <= 1;
+        is_made
+            && self.record(view).actor == actor
+            && (!behind_head || self.record(view).phase == Phase::Queued)
     }
 
     fn names_store(&self, store: u8) -> bool {
         store < self.store_count
     }
+}
+
+/// The bit of a view in a word that marks views.
+fn mark(view: View) -> u32 {
+    1 << (2 * view.key + view.role)
 }

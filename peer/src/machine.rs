@@ -64,6 +64,11 @@ pub struct Record {
 }
 
 impl Record {
+    /// Whether the view stands in its actor's queue.
+    pub fn waits(&self) -> bool {
+        (Phase::Queued..=Phase::Acknowledged).contains(&self.phase)
+    }
+
     /// What a store writes down of this record, its viewlink aside.
     pub fn contents(&self) -> Contents {
         Contents {

@@ -40,9 +40,10 @@ fn jobs_fine(m: State) -> bool
     let messages = m.messages;
     let repairs = m.repairs;
     let entries = m.entries;
+    let met = queues::queues_met(m.actors, vs, queues);
     let queued = both(
-        views::views_fine(m.stores, m.actors, m.made, vs, queues),
-        queues::queues_fine(m.actors, vs, queues),
+        met.fine,
+        views::views_met(m.stores, m.actors, m.made, vs, met.marks),
     );
     let sent = both(
         queued,
@@ -65,13 +66,10 @@ fn places_fine(m: State) -> bool
     let contents = m.contents;
     let links = m.links;
     let shelves = m.shelves;
-    let recorded = both(
-        flight::records_fine(m.stores, vs, records),
-        flight::records_fine(m.stores, vs, acks),
-    );
+    let recorded = flight::records_fine(m.stores, vs, records, acks);
     let updated = both(
-        both(recorded, flight::updates_fine(m.stores, entries, updates)),
-        flight::updates_fine(m.stores, entries, uacks),
+        recorded,
+        flight::updates_fine(m.stores, entries, updates, uacks),
     );
     let filled = both(updated, held::all_contents_fine(m.stores, vs, contents));
     let linked = both(filled, held::held_links_fine(contents, vs, links));

@@ -1,7 +1,7 @@
 // What is in flight and not broken: application messages, repairs with the coordinator's entries, and copies.
 
 use super::broken::both;
-use super::places::past_blank;
+use super::places::within;
 use protocol::Entry;
 use protocol::Message;
 use protocol::Repair;
@@ -10,9 +10,10 @@ use protocol::status_number;
 ghost use mathlib.Core.Path.{_≡_};
 ghost use mathlib.Core.Bool.{_&&_, not};
 ghost use lib.Dec.{eqb, leb, ltb};
-ghost use Rattle.protocol.specs.Words.{pick, all};
+ghost use Rattle.protocol.specs.Words.{pick, all, table};
 ghost use Rattle.protocol.specs.Slots.{statusNumber};
-ghost use Rattle.protocol.specs.Broken.{messageFine, repairFine, entryFine, copiesFine, recordsFine, updatesFine};
+ghost use Rattle.protocol.specs.Broken.{messageFine, repairFine, entryFine, recordsFine, updatesFine};
+ghost use Rattle.broken.specs.Rooms.{recordRoom, updateRoom};
 
 // In flight exactly where it is due.
 fn message_fine(stores: u8, due: bool, g: Message) -> bool
@@ -98,54 +99,72 @@ pub(crate) fn entries_fine(stores: u8, views: [View; 32], entries: [Entry; 32]) 
     true
 }
 
-fn copies_fine(stores: u8, may: bool, at: usize, n: u8) -> bool
-    ensures { λ r. ⌜ r ≡ copiesFine stores (λ v. may) at n ⌝ }
+// How many copies of its record, or acks, a view may have at a place.
+fn record_room(phase: u8) -> u8
+    ensures { λ r. ⌜ r ≡ pick (leb 2 phase) 15 0 ⌝ }
 {
-    if 15 < n {
-        return false;
+    if phase < 2 {
+        return 0;
     }
-    if n == 0 {
-        return true;
-    }
-    both(at / 32 < stores as usize, may)
+    15
 }
 
-pub(crate) fn records_fine(stores: u8, views: [View; 32], copies: [u8; 256]) -> bool
-    ensures { λ r. ⌜ r ≡ recordsFine stores views copies ⌝ }
+fn record_rooms(views: [View; 32]) -> [u8; 32]
+    ensures { λ r. ⌜ r ≡ table (recordRoom views) 32 ⌝ }
 {
-    let mut at: usize = 0;
-    while at < 256 {
-        let next = past_blank(&copies, at);
-        if at < next {
-            at = next;
-        } else {
-            let w = views[at % 32];
-            let fine = copies_fine(stores, 2 <= w.phase, at, copies[at]);
-            if !fine {
-                return false;
-            }
-            at += 1;
-        }
+    let mut rooms = [0u8; 32];
+    let mut v: usize = 0;
+    while v < 32 {
+        let w = views[v];
+        rooms[v] = record_room(w.phase);
+        v += 1;
     }
-    true
+    rooms
 }
 
-pub(crate) fn updates_fine(stores: u8, entries: [Entry; 32], copies: [u8; 256]) -> bool
-    ensures { λ r. ⌜ r ≡ updatesFine stores entries copies ⌝ }
+// .. and how many updates or uacks.
+fn update_room(there: bool) -> u8
+    ensures { λ r. ⌜ r ≡ pick there 15 0 ⌝ }
 {
-    let mut at: usize = 0;
-    while at < 256 {
-        let next = past_blank(&copies, at);
-        if at < next {
-            at = next;
-        } else {
-            let e = entries[at % 32];
-            let fine = copies_fine(stores, has_entry(e), at, copies[at]);
-            if !fine {
-                return false;
-            }
-            at += 1;
-        }
+    if there {
+        return 15;
     }
-    true
+    0
+}
+
+fn update_rooms(entries: [Entry; 32]) -> [u8; 32]
+    ensures { λ r. ⌜ r ≡ table (updateRoom entries) 32 ⌝ }
+{
+    let mut rooms = [0u8; 32];
+    let mut v: usize = 0;
+    while v < 32 {
+        let e = entries[v];
+        rooms[v] = update_room(has_entry(e));
+        v += 1;
+    }
+    rooms
+}
+
+pub(crate) fn records_fine(
+    stores: u8,
+    views: [View; 32],
+    records: [u8; 256],
+    acks: [u8; 256],
+) -> bool
+    ensures { λ r. ⌜ r ≡ (recordsFine stores views records && recordsFine stores views acks) ⌝ }
+{
+    let rooms = record_rooms(views);
+    both(within(stores, rooms, records), within(stores, rooms, acks))
+}
+
+pub(crate) fn updates_fine(
+    stores: u8,
+    entries: [Entry; 32],
+    updates: [u8; 256],
+    uacks: [u8; 256],
+) -> bool
+    ensures { λ r. ⌜ r ≡ (updatesFine stores entries updates && updatesFine stores entries uacks) ⌝ }
+{
+    let rooms = update_rooms(entries);
+    both(within(stores, rooms, updates), within(stores, rooms, uacks))
 }

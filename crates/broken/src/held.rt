@@ -6,11 +6,14 @@ use protocol::Links;
 use protocol::Store;
 use protocol::View;
 ghost use mathlib.Core.Path.{_≡_};
-ghost use mathlib.Core.Bool.{_&&_, _||_, not};
-ghost use lib.Dec.{eqb, ltb};
-ghost use lib.ListN.{length};
-ghost use Rattle.protocol.specs.Words.{pick, all};
-ghost use Rattle.protocol.specs.Broken.{sameContents, blankContents, contentsFine, sameLinks, heldLinksFine, viewlinkFine, viewlinksFine, storeFine};
+ghost use mathlib.Core.Bool.{_&&_, not};
+ghost use Prim.Native.Nat.{_*_};
+ghost use lib.Dec.{eqb, leb, ltb};
+ghost use lib.ListN.{length, getD};
+ghost use Rattle.protocol.specs.Words.{pick, all, table};
+ghost use Rattle.protocol.specs.Broken.{sameContents, blankContents, contentsFine, sameLinks, heldLinksFine, storeFine};
+ghost use Rattle.broken.specs.Packed.{packed};
+ghost use Rattle.broken.specs.Rooms.{linkRoom};
 
 // Contents are those of the view's record, at a store that is there.
 fn same_contents(stores: u8, w: View, at: usize, c: Contents) -> bool
@@ -31,19 +34,30 @@ fn same_contents(stores: u8, w: View, at: usize, c: Contents) -> bool
     c.word == w.word
 }
 
-fn blank_contents(c: Contents) -> bool
-    ensures { λ r. ⌜ r ≡ blankContents c ⌝ }
+// The fields of contents in one number, which is read and compared at once: 0 where nothing is held and all is blank.
+fn packed(c: Contents) -> u64
+    ensures { λ r. ⌜ r ≡ packed c ⌝ }
 {
-    both(both(c.asserter == 0, c.causes == 0), c.word == 0)
+    let fields = (c.asserter as u64) * 256
+        + (c.causes as u64) * 65536
+        + (c.word as u64) * 4294967296;
+    if c.held {
+        return fields + 1;
+    }
+    fields
 }
 
 fn contents_fine(stores: u8, w: View, at: usize, c: Contents) -> bool
     ensures { λ r. ⌜ r ≡ pick (c .held) (sameContents stores w at c) (blankContents c) ⌝ }
 {
+    // Most places are blank.
+    if packed(c) == 0 {
+        return true;
+    }
     if c.held {
         return same_contents(stores, w, at, c);
     }
-    blank_contents(c)
+    false
 }
 
 pub(crate) fn all_contents_fine(stores: u8, views: [View; 32], contents: [Contents; 256]) -> bool
@@ -120,19 +134,41 @@ pub(crate) fn held_links_fine(
     true
 }
 
-fn viewlink_fine(stores: u8, made: u8, p: usize, v: usize, l: u8) -> bool
-    ensures { λ r. ⌜ r ≡ viewlinkFine stores made p v l ⌝ }
+// The highest viewlink that a view may have: a store's number and one, and none behind the last view.
+fn linkable(stores: u8, made: u8, v: usize) -> u8
+    ensures { λ r. ⌜ r ≡ pick (ltb v (made * 2)) stores 0 ⌝ }
 {
-    if l == 0 {
-        return true;
+    if v < (made as usize) * 2 {
+        return stores;
     }
-    if stores < l {
-        return false;
-    }
-    both(p < stores as usize, v < (made as usize) * 2)
+    0
 }
 
-// This loop, too, leaves at no test.
+fn all_linkable(stores: u8, made: u8) -> [u8; 32]
+    ensures { λ r. ⌜ r ≡ table (linkRoom stores made) 32 ⌝ }
+{
+    let mut rooms = [0u8; 32];
+    let mut v: usize = 0;
+    while v < 32 {
+        rooms[v] = linkable(stores, made, v);
+        v += 1;
+    }
+    rooms
+}
+
+// These two loops, too, leave at no test.
+fn links_within(rooms: [u8; 32], links: [u8; 32]) -> bool
+    ensures { λ r. ⌜ r ≡ all (λ v link. leb link (getD rooms v 0)) links ⌝ }
+{
+    let mut fine = true;
+    let mut v: usize = 0;
+    while v < 32 {
+        fine = both(fine, links[v] <= rooms[v]);
+        v += 1;
+    }
+    fine
+}
+
 fn blank_row(links: [u8; 32]) -> bool
     ensures { λ r. ⌜ r ≡ all (λ v link. eqb link 0) links ⌝ }
 {
@@ -145,51 +181,25 @@ fn blank_row(links: [u8; 32]) -> bool
     blank
 }
 
-fn viewlinks_fine(stores: u8, made: u8, p: usize, links: [u8; 32]) -> bool
-    ensures { λ r. ⌜ r ≡ viewlinksFine stores made p links ⌝ }
-{
-    // Most stores have no link: then the thirty-two are tested at once.
-    if blank_row(links) {
-        return true;
-    }
-    let mut v: usize = 0;
-    while v < 32 {
-        let fine = viewlink_fine(stores, made, p, v, links[v]);
-        if !fine {
-            return false;
-        }
-        v += 1;
-    }
-    true
-}
-
-// A store behind the last is not up.
-fn flag_fine(stores: u8, p: usize, up: bool) -> bool
-    ensures { λ r. ⌜ r ≡ (ltb p stores || not up) ⌝ }
-{
-    if p < stores as usize {
-        return true;
-    }
-    !up
-}
-
-fn store_fine(stores: u8, made: u8, p: usize, s: Store) -> bool
-    ensures { λ r. ⌜ r ≡ storeFine stores made p s ⌝ }
+// A store behind the last is not up, and has no link.
+fn store_fine(stores: u8, rooms: [u8; 32], p: usize, s: Store) -> bool
+    ensures { λ r. ⌜ r ≡ (eqb (length (s .viewlinks)) 32 && pick (ltb p stores) (all (λ v link. leb link (getD rooms v 0)) (s .viewlinks)) (not (s .up) && all (λ v link. eqb link 0) (s .viewlinks))) ⌝ }
 {
     let links = s.viewlinks;
-    both(
-        flag_fine(stores, p, s.up),
-        viewlinks_fine(stores, made, p, links),
-    )
+    if p < stores as usize {
+        return links_within(rooms, links);
+    }
+    both(!s.up, blank_row(links))
 }
 
 pub(crate) fn stores_fine(stores: u8, made: u8, shelves: [Store; 8]) -> bool
     ensures { λ r. ⌜ r ≡ all (storeFine stores made) shelves ⌝ }
 {
+    let rooms = all_linkable(stores, made);
     let mut p: usize = 0;
     while p < 8 {
         let s = shelves[p];
-        let fine = store_fine(stores, made, p, s);
+        let fine = store_fine(stores, rooms, p, s);
         if !fine {
             return false;
         }

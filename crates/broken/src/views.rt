@@ -1,47 +1,46 @@
-// The views that are not broken: their cause links, what each phase and role sets, and their place in a queue.
+// The views that are not broken: their cause links, what each phase and role sets, and that those which wait were met in a queue.
 
 use super::broken::both;
 use super::held::blank_links;
-use protocol::Queue;
 use protocol::View;
 ghost use mathlib.Core.Path.{_≡_};
-ghost use mathlib.Core.Bool.{_&&_, _||_, not};
-ghost use Prim.Native.Nat.{_≤_, _<_, _-_, _/_};
+ghost use mathlib.Core.Bool.{_&&_};
+ghost use Prim.Native.Nat.{_<_, _-_, _/_};
 ghost use lib.Dec.{eqb, ltb};
-ghost use lib.ListN.{take};
-ghost use Rattle.protocol.specs.Words.{all, one, times};
-ghost use Rattle.protocol.specs.Slots.{standing};
-ghost use Rattle.protocol.specs.Broken.{linkFine, linksFine, isUnset, phaseFine, roleFine, madeView, waits, viewFine};
+ghost use Rattle.protocol.specs.Words.{pick, bit, all};
+ghost use Rattle.protocol.specs.Broken.{linksFine, isUnset, phaseFine, roleFine, madeView};
+ghost use Rattle.broken.specs.Marks.{waitsMet, viewMet};
 
-fn link_fine(stores: u8, key: usize, causes: u16, j: usize, link: u8) -> bool
+// A link with a cause names a store, one without is blank.
+fn link_fine(stores: u8, causes: u16, j: usize, link: u8) -> bool
     requires { ⌜ j < 16 ⌝ }
-    ensures { λ r. ⌜ r ≡ linkFine stores key causes j link ⌝ }
+    ensures { λ r. ⌜ r ≡ pick (bit causes j) (ltb link stores) (eqb link 0) ⌝ }
 {
     if (causes >> j) % 2 != 1 {
         return link == 0;
-    }
-    if key <= j {
-        return false;
     }
     link < stores
 }
 
 fn links_fine(stores: u8, key: usize, causes: u16, links: [u8; 16]) -> bool
+    requires { ⌜ key < 16 ⌝ }
     ensures { λ r. ⌜ r ≡ linksFine stores key causes links ⌝ }
 {
     // Most views have no cause: then the sixteen are tested at once.
     if causes == 0 {
         return blank_links(links);
     }
+    // A cause isn't below the key.
+    if causes >> key != 0 {
+        return false;
+    }
+    let mut fine = true;
     let mut j: usize = 0;
     while j < 16 {
-        let fine = link_fine(stores, key, causes, j, links[j]);
-        if !fine {
-            return false;
-        }
+        fine = both(fine, link_fine(stores, causes, j, links[j]));
         j += 1;
     }
-    true
+    fine
 }
 
 // Nothing but the actor is set.
@@ -92,35 +91,10 @@ fn made_view(actors: u8, made: u8, sender: u8, v: usize, w: View) -> bool
     role_fine(sender, v, w)
 }
 
-// One if the place holds the view's number.
-fn hit(place: u8, v: usize) -> usize
-    ensures { λ r. ⌜ r ≡ one (eqb place v) ⌝ }
-    ensures few { λ r. ⌜ r ≤ 1 ⌝ }
-{
-    if place as usize == v {
-        return 1;
-    }
-    0
-}
-
-// How often a view stands in a queue, by a search of it.
-fn times(v: usize, len: u8, views: [u8; 16]) -> usize
-    ensures { λ r. ⌜ r ≡ times v (take len views) ⌝ }
-{
-    let mut n: usize = 0;
-    let mut i: usize = 0;
-    while i < 16 {
-        if len as usize <= i {
-            return n;
-        }
-        n += hit(views[i], v);
-        i += 1;
-    }
-    n
-}
-
-fn queued_once(queue: Queue, v: usize, w: View) -> bool
-    ensures { λ r. ⌜ r ≡ (not (waits (w .phase)) || (ltb (w .actor) 8 && eqb (times v (standing queue)) 1)) ⌝ }
+// A view in phases 1 to 4 was met in a queue.
+fn waits_met(marks: u32, v: usize, w: View) -> bool
+    requires { ⌜ v < 32 ⌝ }
+    ensures { λ r. ⌜ r ≡ waitsMet marks v w ⌝ }
 {
     if w.phase < 1 {
         return true;
@@ -128,16 +102,12 @@ fn queued_once(queue: Queue, v: usize, w: View) -> bool
     if 4 < w.phase {
         return true;
     }
-    // An actor that is none has no queue to stand in.
-    if 8 <= w.actor {
-        return false;
-    }
-    let standing = queue.views;
-    times(v, queue.len, standing) == 1
+    (marks >> v) % 2 == 1
 }
 
-fn view_fine(stores: u8, actors: u8, made: u8, sender: u8, queue: Queue, v: usize, w: View) -> bool
-    ensures { λ r. ⌜ r ≡ (linksFine stores (v / 2) (w .causes) (w .links) && phaseFine stores w && madeView actors made sender v w && (not (waits (w .phase)) || (ltb (w .actor) 8 && eqb (times v (standing queue)) 1))) ⌝ }
+fn view_met(stores: u8, actors: u8, made: u8, sender: u8, marks: u32, v: usize, w: View) -> bool
+    requires { ⌜ v < 32 ⌝ }
+    ensures { λ r. ⌜ r ≡ (linksFine stores (v / 2) (w .causes) (w .links) && phaseFine stores w && madeView actors made sender v w && waitsMet marks v w) ⌝ }
 {
     let links = w.links;
     let recorded = both(
@@ -146,7 +116,7 @@ fn view_fine(stores: u8, actors: u8, made: u8, sender: u8, queue: Queue, v: usiz
     );
     both(
         both(recorded, made_view(actors, made, sender, v, w)),
-        queued_once(queue, v, w),
+        waits_met(marks, v, w),
     )
 }
 
@@ -160,22 +130,14 @@ fn number_before(v: usize) -> usize
     v - 1
 }
 
-pub(crate) fn views_fine(
-    stores: u8,
-    actors: u8,
-    made: u8,
-    views: [View; 32],
-    queues: [Queue; 8],
-) -> bool
-    ensures { λ r. ⌜ r ≡ all (viewFine stores actors made views queues) views ⌝ }
+pub(crate) fn views_met(stores: u8, actors: u8, made: u8, views: [View; 32], marks: u32) -> bool
+    ensures { λ r. ⌜ r ≡ all (viewMet stores actors made views marks) views ⌝ }
 {
     let mut v: usize = 0;
     while v < 32 {
         let w = views[v];
         let sender = views[number_before(v)];
-        // Of an actor that is none any queue may be read: the test looks at the actor first.
-        let own = queues[w.actor as usize % 8];
-        let fine = view_fine(stores, actors, made, sender.actor, own, v, w);
+        let fine = view_met(stores, actors, made, sender.actor, marks, v, w);
         if !fine {
             return false;
         }

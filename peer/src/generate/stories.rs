@@ -4,7 +4,7 @@
 //! story misses its aim in some books; the coverage shows that others reach it.
 
 use super::draft::Draft;
-use crate::machine::{members, Machine, Phase, View, What, MAX_COPIES, MAX_TRIES};
+use crate::machine::{members, Phase, View, What, MAX_COPIES, MAX_TRIES};
 use crate::step::Step;
 
 impl Draft {
@@ -206,7 +206,7 @@ impl Draft {
     /// Works off the queue of the view's actor until the view is settled, moved or not.
     fn settle(&mut self, view: View, moved: Moved) {
         let actor = self.machine.record(view).actor;
-        while waits(&self.machine, view) {
+        while self.machine.record(view).waits() {
             let head = self.machine.head(actor).expect("a view that waits stands in the queue");
             let record = self.machine.record(head);
             let store = record.store;
@@ -243,8 +243,4 @@ impl Draft {
 enum Moved {
     Yes,
     No,
-}
-
-fn waits(machine: &Machine, view: View) -> bool {
-    (Phase::Queued..=Phase::Acknowledged).contains(&machine.record(view).phase)
 }

@@ -2,8 +2,9 @@
 
 use crate::common::{run, M, S, SENDER_MOVES};
 use peer::machine::{
-    Application, Contents, Entry, Machine, Phase, Place, Record, Repair, Status, View, What,
+    Actor, Application, Contents, Entry, Machine, Phase, Place, Record, Repair, Status, View, What,
 };
+use peer::random::Random;
 use peer::refusal::Refusal;
 use peer::step::Step;
 
@@ -200,6 +201,48 @@ fn queues_that_dont_fit_the_phases() {
         |m| record(m, 1, 0).phase = Phase::Ready,
         |m| record(m, 2, 0).phase = Phase::Settled,
     ]);
+}
+
+/// Document 01's words about queues, with a search for each view.
+fn queues_fit(machine: &Machine) -> bool {
+    let stands = |actor: &Actor, view| actor.queue.iter().filter(|&&queued| queued == view).count();
+    let fits = |view: View| {
+        let record = machine.record(view);
+        let own = stands(&machine.actors[usize::from(record.actor)], view);
+        let anywhere: usize = machine.actors.iter().map(|actor| stands(actor, view)).sum();
+        own == usize::from(record.waits()) && anywhere == own
+    };
+    let mut behind_heads = machine.actors.iter().flat_map(|actor| actor.queue.iter().skip(1));
+    machine.views().all(fits)
+        && behind_heads.all(|&view| machine.record(view).phase == Phase::Queued)
+}
+
+#[test]
+fn one_pass_over_the_queues_finds_what_a_search_for_each_view_finds() {
+    let mut random = Random::new(3);
+    let mut found = [0; 2];
+    for _ in 0..4000 {
+        let mut machine = sound();
+        for _ in 0..random.between(0, 3) {
+            scramble(&mut machine, &mut random);
+        }
+        let fit = queues_fit(&machine);
+        assert_eq!(machine.is_broken(), !fit, "{:?}", machine.actors);
+        found[usize::from(fit)] += 1;
+    }
+    assert!(found.into_iter().all(|count| count > 100), "{found:?}");
+}
+
+/// Takes a view out of a queue or puts one in, anywhere.
+fn scramble(machine: &mut Machine, random: &mut Random) {
+    let view = View { key: random.below(3) as u8, role: random.below(2) as u8 };
+    let queue = &mut machine.actors[random.below(2)].queue;
+    let place = random.below(queue.len() + 1);
+    if place < queue.len() && random.one_in(2) {
+        queue.remove(place);
+    } else {
+        queue.insert(place, view);
+    }
 }
 
 #[test]

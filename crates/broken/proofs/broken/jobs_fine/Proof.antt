@@ -1,14 +1,15 @@
--- The five tests by view, actor and interaction, joined as the definition joins them. Assumes nothing.
+-- The five tests by view, actor and interaction, joined as the definition joins them; those of queues and views in the marked form. Assumes nothing.
 use borrow.Author.Needs.{needs}
 use Rattle.protocol.specs.Broken.{jobsFine}
+use Rattle.broken.proofs.Marked.{jobs-marked}
 use Rattle.broken.proofs.broken.jobs_fine.Statement.{statement}
 use Rattle.broken.proofs.broken.jobs_fine.Tie as tie
 
-views-fine-requires : tie.Need-views-fine-requires
-views-fine-requires c κs = search needs
+queues-met-requires : tie.Need-queues-met-requires
+queues-met-requires c κs = search needs
 
-queues-fine-requires : tie.Need-queues-fine-requires
-queues-fine-requires c κs = search needs
+views-met-requires : tie.Need-views-met-requires
+views-met-requires c κs = search needs
 
 both-requires : tie.Need-both-requires
 both-requires c κs = search needs
@@ -34,13 +35,15 @@ both-requires-4 c κs = search needs
 returns : tie.Need-returns
 unfolding jobsFine
 returns c =
+    let m = c .before .before .before .before .before .before .before .before .before .before .before .before .before .before .args .m in
+    let met = c .before .before .before .before .before .before .before .before .queues-met .ensures in
     simp (
       c .both4 .ensures,
       c .before .before .both3 .ensures,
       c .before .before .before .before .both2 .ensures,
       c .before .before .before .before .before .before .both .ensures,
-      c .before .before .before .before .before .before .before .before .views-fine .ensures,
-      c .before .before .before .before .before .before .before .queues-fine .ensures,
+      c .before .before .before .before .before .before .before .views-met .ensures,
+      jobs-marked (m .stores) (m .actors) (m .made) (m .views) (m .queues) _ _ (met .0) (met .1),
       c .before .before .before .before .before .messages-fine .ensures,
       c .before .before .before .repairs-fine .ensures,
       c .before .entries-fine .ensures,
@@ -48,5 +51,5 @@ returns c =
 
 pub jobs-fine-spec : {M : Type 1} → statement M
 jobs-fine-spec =
-    tie.close (tie.spec views-fine-requires queues-fine-requires both-requires messages-fine-requires
+    tie.close (tie.spec queues-met-requires views-met-requires both-requires messages-fine-requires
     both-requires-2 repairs-fine-requires both-requires-3 entries-fine-requires both-requires-4 returns)

@@ -1,72 +1,31 @@
--- The loop passes over blanks and leaves at the first place with copies of a view in phase 0 or 1. Assumes nothing.
-use Prim.Native.Nat.{_-_}
-use mathlib.Core.Path.{refl, sym, _∙_}
-use native.Mathlib.Omega.{arith}
+-- Both arrays are within the rooms of their views. Assumes nothing.
+use mathlib.Core.Path.{_∙_}
 use borrow.Author.Needs.{needs}
-use borrow.Author.Tests.{not-true, not-false}
 use lib.Dec.{leb}
 use lib.ListN.{getD}
 use Rattle.protocol.specs.Slots.{noView}
-use Rattle.protocol.specs.Broken.{copiesFine, recordsFine}
-use Rattle.unbroken.proofs.Pass.{Passed, pass-start, pass-step, pass-stop, pass-end, pass-blank}
+use Rattle.protocol.specs.Broken.{recordsFine}
+use Rattle.broken.proofs.Rooms.{rooms-both}
 use Rattle.broken.proofs.flight.records_fine.Statement.{statement}
 use Rattle.broken.proofs.flight.records_fine.Tie as tie
 
-abbrev Inv-loop : tie.InvT-loop
-Inv-loop stores views copies at₀ at = Passed 0 (copiesFine stores (λ v. leb 2 (getD views v noView .phase))) copies 256 at
+record-rooms-requires : tie.Need-record-rooms-requires
+record-rooms-requires c κs = search needs
 
-abbrev μ-loop : tie.MeasureT-loop
-μ-loop stores views copies at₀ at = 256 - at
+within-requires : tie.Need-within-requires
+within-requires c κs = search needs
 
-loop-holds : tie.Need-loop-holds Inv-loop μ-loop
-loop-holds c = pass-start _ _ _ _ (search needs)
+within-requires-2 : tie.Need-within-requires-2
+within-requires-2 c κs = search needs
 
-past-blank-requires : tie.Need-past-blank-requires Inv-loop μ-loop
-past-blank-requires c κs = search needs
+both-requires : tie.Need-both-requires
+both-requires c κs = search needs
 
-loop-less : tie.Need-loop-less Inv-loop μ-loop
-loop-less c = omega arith
-
-loop-again : tie.Need-loop-again Inv-loop μ-loop
-loop-again c =
-    let next = c .before .past-blank .ensures in
-    pass-blank _ (c .before .before .before .before .loop .inv) (next .0) (next .1 .0) (next .1 .1) (λ k. refl)
-
-mul-w : tie.Need-mul-w Inv-loop μ-loop
-mul-w c = omega arith
-
-array-copy-out-w : tie.Need-array-copy-out-w Inv-loop μ-loop
-array-copy-out-w c = omega arith
-
-array-read-copies-fine : tie.Need-array-read-copies-fine Inv-loop μ-loop
-array-read-copies-fine c = omega arith
-
-copies-fine-requires : tie.Need-copies-fine-requires Inv-loop μ-loop
-copies-fine-requires c κs = search needs
-
-returns : tie.Need-returns Inv-loop μ-loop
+returns : tie.Need-returns
 unfolding recordsFine
 returns c =
-    pass-stop (c .before .before .before .before .before .before .before .before .loop .inv) (c .before .before .before .before .before .before .before .loop-test .taken)
-    (sym (c .before .copies-fine .ensures) ∙ not-true _ (c .if2 .taken))
-
-add-at : tie.Need-add-at Inv-loop μ-loop
-add-at c = omega arith
-
-loop-less-2 : tie.Need-loop-less-2 Inv-loop μ-loop
-loop-less-2 c = omega arith
-
-loop-again-2 : tie.Need-loop-again-2 Inv-loop μ-loop
-loop-again-2 c =
-    pass-step (c .before .before .before .before .before .before .before .before .loop .inv) (c .before .before .before .before .before .before .before .loop-test .taken)
-    (sym (c .before .copies-fine .ensures) ∙ not-false _ (c .if2 .left))
-
-returns-2 : tie.Need-returns-2 Inv-loop μ-loop
-unfolding recordsFine
-returns-2 c = pass-end (c .before .loop .inv) (c .loop-test .left)
+    let start = c .before .before .before .before .args in
+    c .both .ensures ∙ rooms-both (start .stores) (λ v. leb 2 (getD (start .views) v noView .phase)) _ (c .before .before .before .record-rooms .ensures) (start .records) (start .acks) (c .before .before .within .ensures) (c .before .within2 .ensures)
 
 pub records-fine-spec : {M : Type 1} → statement M
-records-fine-spec =
-    tie.close (tie.spec Inv-loop μ-loop loop-holds past-blank-requires loop-less loop-again mul-w
-    array-copy-out-w array-read-copies-fine copies-fine-requires returns add-at loop-less-2 loop-again-2
-    returns-2)
+records-fine-spec = tie.close (tie.spec record-rooms-requires within-requires within-requires-2 both-requires returns)

@@ -16,8 +16,5 @@ returns c = search tests
 returns-2 : tie.Need-returns-2
 returns-2 c = search tests
 
-returns-3 : tie.Need-returns-3
-returns-3 c = search tests
-
 pub link-fine-spec : {M : Type 1} → statement M
-link-fine-spec = tie.close (tie.spec cast-if1 shr-if1 returns returns-2 returns-3)
+link-fine-spec = tie.close (tie.spec cast-if1 shr-if1 returns returns-2)
