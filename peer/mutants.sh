@@ -1,6 +1,6 @@
 #!/bin/sh
-# Plants each of document 01's five easy ways to get it wrong in a copy of the peer, one at a
-# time, and checks that the comparison finds it.
+# Plants each of document 01's five easy ways to get it wrong, and two of a store with checkpoints,
+# in a copy of the peer, one at a time, and checks that the comparison finds it.
 #
 #   mutants.sh [SEEDS [RECORDER INSPECT]]
 #
@@ -37,26 +37,28 @@ compare() {
     fi
 }
 
+planted=0
 missed=0
 
-# plant NUMBER NAME EDIT: breaks the one line that is marked with the number.
+# plant MARK NAME EDIT: breaks the one line that is marked so.
 plant() {
+    planted=$((planted + 1))
     cp "$peer/src/rules.rs" "$work/peer/src/rules.rs"
-    if [ "$(grep -c "// easy way $1\$" "$peer/src/rules.rs")" != 1 ]; then
-        echo "easy way $1 isn't marked in one line"
+    if [ "$(grep -c "// $1\$" "$peer/src/rules.rs")" != 1 ]; then
+        echo "$1 isn't marked in one line"
         exit 2
     fi
     sed -i "$3" "$work/peer/src/rules.rs"
     if cmp -s "$peer/src/rules.rs" "$work/peer/src/rules.rs"; then
-        echo "easy way $1: the marked line is no longer as the edit expects it"
+        echo "$1: the marked line is no longer as the edit expects it"
         exit 2
     fi
     build
     compare
     if [ "$found" = 1 ]; then
-        echo "easy way $1, $2: found, $(head -n 1 "$work/difference" | cut -d , -f 1)"
+        echo "$1, $2: found, $(head -n 1 "$work/difference" | cut -d , -f 1)"
     else
-        echo "easy way $1, $2: NOT found in $seeds seeds"
+        echo "$1, $2: NOT found in $seeds seeds"
         missed=$((missed + 1))
     fi
 }
@@ -77,16 +79,21 @@ if [ "$found" = 1 ]; then
     exit 1
 fi
 
-plant 1 "a late record overwrites an update's viewlink" \
-    's|place.viewlink.get_or_insert(viewlink); // easy way 1|place.viewlink = Some(viewlink);|'
-plant 2 "a uack from a replaced destination finishes the update" \
+plant "easy way 1" "a late record overwrites an update's viewlink" \
+    's|place.working.viewlink.get_or_insert(viewlink); // easy way 1|place.working.viewlink = Some(viewlink);|'
+plant "easy way 2" "a uack from a replaced destination finishes the update" \
     's|entry.destination == store; // easy way 2|true;|'
-plant 3 "the second repair leaves the other entry" \
+plant "easy way 3" "the second repair leaves the other entry" \
     's|other.destination = own; // easy way 3||'
-plant 4 "cause links are set at sending only" \
+plant "easy way 4" "cause links are set at sending only" \
     's|cause_links\[usize::from(cause)\] = receipt.store; // easy way 4||'
-plant 5 "an ack from a store that was left is accepted" \
+plant "easy way 5" "an ack from a store that was left is accepted" \
     's|record.store == store; // easy way 5|true;|'
 
-echo "$((5 - missed)) of 5 found"
+plant "checkpoint 1" "a crash keeps what the store took and owes" \
+    's|store.places_mut().for_each(Place::throw_back); // checkpoint 1||'
+plant "checkpoint 2" "a record is acknowledged before the checkpoint" \
+    's|place.ack_owed = true; // checkpoint 2|place.send(What::Ack);|'
+
+echo "$((planted - missed)) of $planted found"
 [ "$missed" = 0 ]

@@ -48,7 +48,7 @@ impl Draft {
         let values = match kind {
             1 => vec![below(8), below(8), below(8), DATA, below(2) << below(8)],
             2 => vec![below(16)],
-            3 | 4 | 8 | 15 | 16 => vec![below(8)],
+            3 | 4 | 8 | 15 | 16 | 17 => vec![below(8)],
             5 => vec![below(8), below(8)],
             6 | 7 | 11 | 12 => vec![below(8), below(16), below(2)],
             9 | 10 | 13 => vec![below(16), below(2)],
@@ -95,6 +95,7 @@ impl Draft {
                 self.add(Step::PreCheck { actor });
                 self.add(Step::SendRecord { actor });
                 self.add(Step::TakeRecord { store, view });
+                self.add(Step::Checkpoint { store });
                 self.add(Step::TakeAck { store, view });
                 self.add(Step::PostCheck { actor });
             }
@@ -130,9 +131,9 @@ impl Draft {
 }
 
 /// Each kind as often as it is drawn. Sends, receipts and pre-checks soon run out.
-const WEIGHTED: [u8; 33] = [
+const WEIGHTED: [u8; 36] = [
     1, 1, 1, 2, 3, 3, 4, 4, 4, 5, 5, 5, 6, 6, 6, 6, 7, 7, 7, 8, 9, 10, 10, 11, 11, 12, 12, 13, 13,
-    14, 14, 15, 16,
+    14, 14, 15, 16, 17, 17, 17,
 ];
 
 /// A book of 4,096 steps over sixteen interactions: every step is taken, but that one in so many

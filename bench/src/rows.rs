@@ -15,7 +15,7 @@ use crate::books::{self, Draft};
 use crate::ours;
 
 /// The bytes of our machine value, and of our store of the first PReP.
-const MACHINE_BYTES: usize = 6756;
+const MACHINE_BYTES: usize = 7164;
 const STORE_BYTES: usize = 3011;
 
 /// So many of the peer's values are copied at a time: few enough to stay near the processor.
@@ -270,7 +270,7 @@ fn told(machine: &Machine, step: Step) -> u32 {
 
 /// Kind and name, as `5 timeout`.
 fn named(step: Step) -> String {
-    const NAMES: [&str; 16] = [
+    const NAMES: [&str; 17] = [
         "send",
         "receive",
         "pre-check",
@@ -287,6 +287,7 @@ fn named(step: Step) -> String {
         "lose",
         "crash",
         "restart",
+        "checkpoint",
     ];
     let kind = step.kind();
     format!("{kind} {}", NAMES[usize::from(kind) - 1])

@@ -1,8 +1,8 @@
 //! The test for a broken machine value. Document 01's list is complete: nothing else is broken.
 
 use crate::machine::{
-    contains, members, setup_is_legal, Actor, ActorSetup, Interaction, Machine, Phase, Place,
-    Record, Store, View, What, MAX_ACTORS, MAX_COPIES, MAX_INTERACTIONS, MAX_TRIES,
+    contains, members, setup_is_legal, Actor, ActorSetup, Holding, Interaction, Machine, Phase,
+    Place, Record, Store, View, What, MAX_ACTORS, MAX_COPIES, MAX_INTERACTIONS, MAX_TRIES,
 };
 
 impl Machine {
@@ -101,12 +101,19 @@ impl Machine {
         let place = self.place(store, view);
         let record = self.record(view);
         let has_any = |one, other| place.count(one) > 0 || place.count(other) > 0;
-        let untouched = place.contents.is_none() && !has_any(What::Record, What::Ack);
+        // An owed note counts as the copy that it stands for.
+        let holds_none = states(place).all(|state| state.contents.is_none());
+        let untouched = holds_none && !has_any(What::Record, What::Ack) && !place.ack_owed;
+        let without_update = !has_any(What::Update, What::Uack) && !place.uack_owed;
         place.copies.iter().all(|&count| count <= MAX_COPIES)
             && (record.phase >= Phase::Ready || untouched)
-            && (self.side(view).entry.is_some() || !has_any(What::Update, What::Uack))
-            && place.contents.as_ref().is_none_or(|contents| *contents == record.contents())
-            && place.viewlink.is_none_or(|link| self.names_store(link))
+            && (self.side(view).entry.is_some() || without_update)
+            && states(place).all(|state| self.holding_is_sound(state, record))
+    }
+
+    fn holding_is_sound(&self, holding: &Holding, record: &Record) -> bool {
+        holding.contents.as_ref().is_none_or(|contents| *contents == record.contents())
+            && holding.viewlink.is_none_or(|link| self.names_store(link))
     }
 
     /// In the queues stand exactly the views in phases 1 to 4, each once. One pass marks the views
@@ -137,6 +144,11 @@ impl Machine {
     fn names_store(&self, store: u8) -> bool {
         store < self.store_count
     }
+}
+
+/// Both states are tested. Nothing is asked of how they differ, or of a store that is down.
+fn states(place: &Place) -> impl Iterator<Item = &Holding> {
+    [&place.working, &place.checkpointed].into_iter()
 }
 
 /// The bit of a view in a word that marks views.

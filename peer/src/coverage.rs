@@ -6,7 +6,8 @@ use std::ops::Range;
 use crate::book::Book;
 use crate::generate::generate;
 use crate::machine::{
-    members, Machine, Phase, Record, Status, View, What, MAX_COPIES, MAX_INTERACTIONS, MAX_TRIES,
+    members, Holding, Machine, Phase, Place, Record, Status, Store, View, What, MAX_COPIES,
+    MAX_INTERACTIONS, MAX_TRIES,
 };
 use crate::programs::MAX_INPUT;
 use crate::refusal::{number, Refusal};
@@ -14,7 +15,7 @@ use crate::step::{Step, KINDS};
 use crate::text::kind_name;
 use crate::walk::Walk;
 
-/// The answers that document 01 allows to each kind, kind 1 first.
+/// The answers that the documents allow to each kind, kind 1 first.
 const POSSIBLE: [&[u8]; KINDS as usize] = [
     &[0, 2, 3, 4, 8, 9],
     &[0, 2, 7],
@@ -32,6 +33,7 @@ const POSSIBLE: [&[u8]; KINDS as usize] = [
     &[0, 2, 7],
     &[0, 2, 5],
     &[0, 2, 6],
+    &[0, 2, 5],
 ];
 
 /// Something worth meeting in a run or at its end.
@@ -51,8 +53,19 @@ enum Event {
     ThirdTry,
     FourthTryRefused,
     MoveAfterTries,
+    AckAtCheckpoint,
+    UackAtCheckpoint,
+    SecondRecordWhileOwed,
+    SecondUpdateWhileOwed,
+    CrashDropsAck,
+    CrashDropsUack,
+    CrashThrowsBackContents,
+    CrashThrowsBackUpdate,
     SixteenInteractions,
     DrainRefused,
+    DrainSendsAck,
+    DrainSendsUack,
+    NoteAfterDrain,
     WalkRefused,
     LongWalk,
     LongWalkAfterDrain,
@@ -60,11 +73,11 @@ enum Event {
 }
 
 /// What each event is called, in their order.
-const EVENT_NAMES: [&str; 20] = [
+const EVENT_NAMES: [&str; 31] = [
     "a sixteenth record lost",
-    "a sixteenth ack lost",
+    "a sixteenth ack lost at a checkpoint",
     "a sixteenth update lost",
-    "a sixteenth uack lost",
+    "a sixteenth uack lost at a checkpoint",
     "both repairs, the sender's second",
     "both repairs, the receiver's second",
     "a stale uack, its destination replaced",
@@ -75,8 +88,19 @@ const EVENT_NAMES: [&str; 20] = [
     "a third try at the same store",
     "a fourth try refused",
     "a move to another store after tries",
+    "a checkpoint that sends an ack",
+    "a checkpoint that sends a uack",
+    "a second record taken while an ack is owed",
+    "a second update taken while a uack is owed",
+    "a crash that drops an owed ack",
+    "a crash that drops an owed uack",
+    "a crash that throws back contents",
+    "a crash that throws back the viewlink of an update",
     "sixteen interactions",
     "a drain refused with a store down",
+    "a drain that takes a checkpoint for an ack",
+    "a drain that takes a checkpoint for a uack",
+    "a note that a drain leaves, at a store that it doesn't wait for",
     "a walk refused at an open interaction",
     "a walk over several interactions",
     "a walk over several interactions after a drain",
@@ -120,8 +144,12 @@ impl Coverage {
             let before = machine.clone();
             let answer = number(&machine.take(step));
             self.answers[usize::from(step.kind()) - 1][usize::from(answer)] += 1;
-            let event = if answer == 0 { event(&before, step) } else { fourth_try(&before, step) };
-            event.inspect(|&event| self.add_event(event, true));
+            let events = if answer == 0 {
+                events(&before, step)
+            } else {
+                fourth_try(&before, step).into_iter().collect()
+            };
+            events.into_iter().for_each(|event| self.add_event(event, true));
         }
         self.add_end(machine);
         Ok(())
@@ -134,12 +162,28 @@ impl Coverage {
         let walked = walks(&machine);
         self.add_event(Event::WalkRefused, walked.contains(&Err(Refusal::Open)));
         self.add_event(Event::LongWalk, has_long_walk(&walked));
+        let before = machine.clone();
         let drained = machine.drain();
         self.add_event(Event::DrainRefused, drained == Err(Refusal::StoreDown));
+        if drained.is_ok() {
+            self.add_drain(before);
+            let notes = machine.stores.iter().flat_map(Store::places).any(Place::owes);
+            self.add_event(Event::NoteAfterDrain, notes);
+        }
         let walked = walks(&machine);
         let long = has_long_walk(&walked);
         self.add_event(Event::LongWalkAfterDrain, drained.is_ok() && long);
         self.add_event(Event::KeyMetAgain, has_key_met_again(&machine, &walked));
+    }
+
+    /// What the drain's checkpoints are for: acks while a queue is left, uacks behind that.
+    fn add_drain(&mut self, mut machine: Machine) {
+        while let Some(step) = machine.next_of_drain() {
+            let has_queue = (0..machine.actor_count).any(|actor| machine.head(actor).is_some());
+            let event = if has_queue { Event::DrainSendsAck } else { Event::DrainSendsUack };
+            self.add_event(event, matches!(step, Step::Checkpoint { .. }));
+            machine.take_unbroken(step).expect("the drain picks a step that its rule allows");
+        }
     }
 
     fn add_event(&mut self, event: Event, met: bool) {
@@ -220,17 +264,66 @@ fn has_key_met_again(machine: &Machine, walks: &[Result<Walk, Refusal>]) -> bool
 }
 
 /// What is worth noting about a step that the machine takes.
+fn events(machine: &Machine, step: Step) -> Vec<Event> {
+    match step {
+        Step::TakeRecord { store, view } => {
+            let owed = machine.place(store, view).ack_owed;
+            let second = owed.then_some(Event::SecondRecordWhileOwed);
+            second.into_iter().chain(late(machine, store, view)).collect()
+        }
+        Step::TakeUpdate { store, view } => {
+            let owed = machine.place(store, view).uack_owed;
+            owed.then_some(Event::SecondUpdateWhileOwed).into_iter().collect()
+        }
+        Step::Crash { store } => places(machine, store).flat_map(thrown_back).collect(),
+        Step::Checkpoint { store } => places(machine, store).flat_map(sent_at_checkpoint).collect(),
+        _ => event(machine, step).into_iter().collect(),
+    }
+}
+
+fn places(machine: &Machine, store: u8) -> impl Iterator<Item = &Place> {
+    machine.stores[usize::from(store)].places()
+}
+
+/// What a crash does at a place.
+fn thrown_back(place: &Place) -> impl Iterator<Item = Event> {
+    let Place { working, checkpointed, ack_owed, uack_owed, .. } = place;
+    let contents = working.contents != checkpointed.contents;
+    // Only an update writes a link where there is one, or where there are no contents.
+    let written = checkpointed.viewlink.is_some() || working.contents.is_none();
+    let update = working.viewlink != checkpointed.viewlink && written;
+    let met = [
+        (Event::CrashDropsAck, *ack_owed),
+        (Event::CrashDropsUack, *uack_owed),
+        (Event::CrashThrowsBackContents, contents),
+        (Event::CrashThrowsBackUpdate, update),
+    ];
+    met.into_iter().filter(|(_, met)| *met).map(|(event, _)| event)
+}
+
+/// What a checkpoint sends from a place, and what is lost because fifteen are in flight.
+fn sent_at_checkpoint(place: &Place) -> impl Iterator<Item = Event> {
+    let Place { ack_owed, uack_owed, .. } = place;
+    let full = |what| place.count(what) == MAX_COPIES;
+    let met = [
+        (Event::AckAtCheckpoint, *ack_owed),
+        (Event::UackAtCheckpoint, *uack_owed),
+        (Event::SixteenthAck, *ack_owed && full(What::Ack)),
+        (Event::SixteenthUack, *uack_owed && full(What::Uack)),
+    ];
+    met.into_iter().filter(|(_, met)| *met).map(|(event, _)| event)
+}
+
+/// The one thing that most kinds of step can show.
 fn event(machine: &Machine, step: Step) -> Option<Event> {
     match step {
         Step::PreCheck { actor } => moved_receipt(machine, machine.head(actor)?),
         Step::SendRecord { actor } => {
             let view = machine.head(actor)?;
-            sixteenth(machine, What::Record, machine.record(view).store, view)
+            let full = is_full(machine, What::Record, machine.record(view).store, view);
+            full.then_some(Event::SixteenthRecord)
         }
         Step::Timeout { actor, store } => tried(machine.record(machine.head(actor)?), store),
-        Step::TakeRecord { store, view } => {
-            sixteenth(machine, What::Ack, store, view).or_else(|| late(machine, store, view))
-        }
         Step::TakeAck { store, view } => {
             let record = machine.record(view);
             let left = record.phase == Phase::Sent && record.store != store;
@@ -242,9 +335,9 @@ fn event(machine: &Machine, step: Step) -> Option<Event> {
         }
         Step::SendUpdate { view } => {
             let destination = machine.side(view).entry?.destination;
-            sixteenth(machine, What::Update, destination, view)
+            let full = is_full(machine, What::Update, destination, view);
+            full.then_some(Event::SixteenthUpdate)
         }
-        Step::TakeUpdate { store, view } => sixteenth(machine, What::Uack, store, view),
         Step::TakeUack { store, view } => {
             let entry = machine.side(view).entry?;
             let stale = entry.status == Status::Waiting && entry.destination != store;
@@ -273,21 +366,15 @@ fn fourth_try(machine: &Machine, step: Step) -> Option<Event> {
     (record.store == store && record.tries == MAX_TRIES).then_some(Event::FourthTryRefused)
 }
 
-fn sixteenth(machine: &Machine, what: What, store: u8, view: View) -> Option<Event> {
-    let event = match what {
-        What::Record => Event::SixteenthRecord,
-        What::Ack => Event::SixteenthAck,
-        What::Update => Event::SixteenthUpdate,
-        What::Uack => Event::SixteenthUack,
-    };
-    (machine.place(store, view).count(what) == MAX_COPIES).then_some(event)
+fn is_full(machine: &Machine, what: What, store: u8, view: View) -> bool {
+    machine.place(store, view).count(what) == MAX_COPIES
 }
 
 /// A first record that finds another viewlink than its own, which only an update writes.
 fn late(machine: &Machine, store: u8, view: View) -> Option<Event> {
-    let place = machine.place(store, view);
-    let other_link = place.viewlink.is_some_and(|link| link != machine.record(view).viewlink);
-    (other_link && place.contents.is_none()).then_some(Event::LateRecord)
+    let Holding { contents, viewlink } = &machine.place(store, view).working;
+    let other_link = viewlink.is_some_and(|link| link != machine.record(view).viewlink);
+    (other_link && contents.is_none()).then_some(Event::LateRecord)
 }
 
 fn moved_receipt(machine: &Machine, view: View) -> Option<Event> {

@@ -5,7 +5,7 @@ use crate::refusal::Refusal;
 use crate::step::Step;
 
 /// The drain stops after so many steps for each interaction.
-const STEPS_PER_INTERACTION: usize = 18;
+const STEPS_PER_INTERACTION: usize = 22;
 
 impl Machine {
     /// Takes steps until none applies, and hands back how many.
@@ -50,12 +50,16 @@ impl Machine {
         }
     }
 
-    /// An ack from the current store, else a record there, else the lowest other store.
+    /// An ack from the current store, else its checkpoint if an ack is owed, else a record there,
+    /// else the lowest other store.
     fn next_of_sent(&self, actor: u8, view: View) -> Step {
         let store = self.record(view).store;
         let place = self.place(store, view);
         if place.count(What::Ack) > 0 {
             return Step::TakeAck { store, view };
+        }
+        if place.ack_owed {
+            return Step::Checkpoint { store };
         }
         if place.count(What::Record) > 0 {
             return Step::TakeRecord { store, view };
@@ -84,11 +88,14 @@ impl Machine {
         })
     }
 
-    /// A uack from the destination, else an update there, else a coordinator timeout.
+    /// A uack from the destination, else its checkpoint if a uack is owed, else an update there,
+    /// else a coordinator timeout.
     fn next_of_waiting(&self, destination: u8, view: View) -> Step {
         let place = self.place(destination, view);
         if place.count(What::Uack) > 0 {
             Step::TakeUack { store: destination, view }
+        } else if place.uack_owed {
+            Step::Checkpoint { store: destination }
         } else if place.count(What::Update) > 0 {
             Step::TakeUpdate { store: destination, view }
         } else {

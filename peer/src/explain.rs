@@ -158,7 +158,7 @@ fn not_there(machine: &Machine, step: Step) -> String {
         Step::TakeRepair { view } => format!("no repair of {} is in flight", name(view)),
         Step::SendUpdate { view } => entry_isnt(machine, view, Status::ToSend),
         Step::CoordinatorTimeout { view } => entry_isnt(machine, view, Status::Waiting),
-        Step::Send { .. } | Step::Crash { .. } | Step::Restart { .. } => {
+        Step::Send { .. } | Step::Crash { .. } | Step::Restart { .. } | Step::Checkpoint { .. } => {
             unreachable!("such a step needs no phase, status or copy")
         }
     }

@@ -11,10 +11,10 @@ use crate::random::Random;
 use draft::Draft;
 
 /// The styles take turns, so that few seeds cover them all.
-pub const STYLES: u64 = 21;
+pub const STYLES: u64 = 22;
 
 /// The first styles have steps alone that are taken.
-pub const LEGAL_STYLES: u64 = 10;
+pub const LEGAL_STYLES: u64 = 11;
 
 /// The book of a seed, as bytes.
 pub fn generate(seed: u64) -> Vec<u8> {
@@ -25,11 +25,12 @@ pub fn generate(seed: u64) -> Vec<u8> {
         6 | 7 => draft.both_repairs(),
         8 => draft.late_record(),
         9 => draft.moved_receipts(),
-        10 => draft.sixteen(),
-        11 => draft.tries(),
-        12..=15 => draft.near_misses(),
-        16 | 17 => draft.wild(),
-        18 => draft.illegal_setup(),
+        10 => draft.lost_before_checkpoint(),
+        11 => draft.sixteen(),
+        12 => draft.tries(),
+        13..=16 => draft.near_misses(),
+        17 | 18 => draft.wild(),
+        19 => draft.illegal_setup(),
         _ => return draft.damaged(),
     }
     draft.book.bytes()

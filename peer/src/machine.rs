@@ -3,6 +3,8 @@
 //! Every slot is there from the start and blank until it is used, so that a broken machine
 //! value can be written down as document 01 describes it. Nothings are `None`.
 
+use std::mem;
+
 use crate::refusal::Refusal;
 
 pub const MAX_STORES: usize = 8;
@@ -103,11 +105,21 @@ impl What {
     pub const ALL: [What; 4] = [What::Record, What::Ack, What::Update, What::Uack];
 }
 
-/// One store's side of one view: what it holds, and the copies on their way to or from it.
+/// What a store holds for a view: nothing or contents, and beside it a viewlink or none.
 #[derive(Clone, PartialEq, Eq, Debug, Default)]
-pub struct Place {
+pub struct Holding {
     pub contents: Option<Contents>,
     pub viewlink: Option<u8>,
+}
+
+/// One store's side of one view: what it holds and owes, and the copies on their way to or from it.
+#[derive(Clone, PartialEq, Eq, Debug, Default)]
+pub struct Place {
+    pub working: Holding,
+    pub checkpointed: Holding,
+    /// Notes of an ack and of a uack that go off at the next checkpoint.
+    pub ack_owed: bool,
+    pub uack_owed: bool,
     pub copies: [u8; What::ALL.len()],
 }
 
@@ -127,6 +139,28 @@ impl Place {
         let count = &mut self.copies[what as usize];
         *count = count.checked_sub(1).ok_or(Refusal::NotThere)?;
         Ok(())
+    }
+
+    pub fn owes(&self) -> bool {
+        self.ack_owed || self.uack_owed
+    }
+
+    /// The working state becomes the checkpointed one, and one copy goes off for each owed note.
+    pub fn checkpoint(&mut self) {
+        self.checkpointed = self.working.clone();
+        if mem::take(&mut self.ack_owed) {
+            self.send(What::Ack);
+        }
+        if mem::take(&mut self.uack_owed) {
+            self.send(What::Uack);
+        }
+    }
+
+    /// A crash throws back to the checkpoint and drops the notes. Copies in flight stay.
+    pub fn throw_back(&mut self) {
+        self.working = self.checkpointed.clone();
+        self.ack_owed = false;
+        self.uack_owed = false;
     }
 }
 
@@ -259,6 +293,11 @@ impl Machine {
         &mut places[usize::from(view.key)][usize::from(view.role)]
     }
 
+    /// What lasts in a store: its checkpointed state, of which walk and listing speak.
+    pub fn lasting(&self, store: u8, view: View) -> &Holding {
+        &self.place(store, view).checkpointed
+    }
+
     pub fn is_up(&self, store: u8) -> bool {
         self.stores[usize::from(store)].up
     }
@@ -303,6 +342,14 @@ impl Machine {
 impl Store {
     pub fn place(&self, view: View) -> &Place {
         &self.places[usize::from(view.key)][usize::from(view.role)]
+    }
+
+    pub fn places(&self) -> impl Iterator<Item = &Place> {
+        self.places.iter().flatten()
+    }
+
+    pub fn places_mut(&mut self) -> impl Iterator<Item = &mut Place> {
+        self.places.iter_mut().flatten()
     }
 }
 

@@ -3,7 +3,7 @@
 use std::fmt::{self, Write};
 
 use crate::book::{self, Book};
-use crate::machine::{members, Machine, Phase, View};
+use crate::machine::{members, Holding, Machine, Phase, View};
 use crate::refusal::{number, Refusal};
 use crate::step::Step;
 use crate::walk::Walk;
@@ -77,7 +77,7 @@ fn listing(out: &mut String, machine: &Machine, answers: &[u8]) -> fmt::Result {
             writeln!(out, "- -")?;
             continue;
         }
-        match machine.place(record.store, view).viewlink {
+        match machine.lasting(record.store, view).viewlink {
             Some(link) => writeln!(out, "{} {link}", record.store)?,
             None => writeln!(out, "{} -", record.store)?,
         }
@@ -167,17 +167,34 @@ fn record_line(out: &mut String, machine: &Machine, view: View) -> fmt::Result {
 fn place_lines(out: &mut String, machine: &Machine, store: u8, view: View) -> fmt::Result {
     let View { key, role } = view;
     let place = machine.place(store, view);
-    if let Some(contents) = &place.contents {
-        write!(out, "S {store} {key} {role} {} {}", contents.asserter, contents.data)?;
-        causes(out, contents.causes, &contents.cause_links)?;
-        writeln!(out)?;
-    }
-    if let Some(link) = place.viewlink {
-        writeln!(out, "L {store} {key} {role} {link}")?;
+    let at = format!("{store} {key} {role}");
+    holding_lines(out, ["S", "L"], &at, &place.working)?;
+    holding_lines(out, ["CS", "CL"], &at, &place.checkpointed)?;
+    if place.owes() {
+        let (ack, uack) = (u8::from(place.ack_owed), u8::from(place.uack_owed));
+        writeln!(out, "N {at} {ack} {uack}")?;
     }
     let [record, ack, update, uack] = place.copies;
     if place.copies != [0; 4] {
-        writeln!(out, "F {store} {key} {role} {record} {ack} {update} {uack}")?;
+        writeln!(out, "F {at} {record} {ack} {update} {uack}")?;
+    }
+    Ok(())
+}
+
+/// The contents and the viewlink of one state of a place, in lines that begin with these letters.
+fn holding_lines(
+    out: &mut String,
+    [contents_line, link_line]: [&str; 2],
+    at: &str,
+    holding: &Holding,
+) -> fmt::Result {
+    if let Some(contents) = &holding.contents {
+        write!(out, "{contents_line} {at} {} {}", contents.asserter, contents.data)?;
+        causes(out, contents.causes, &contents.cause_links)?;
+        writeln!(out)?;
+    }
+    if let Some(link) = holding.viewlink {
+        writeln!(out, "{link_line} {at} {link}")?;
     }
     Ok(())
 }

@@ -1,10 +1,11 @@
-//! The rules of the sixteen steps: the refusals in the order of their numbers, then the effect.
+//! The rules of the seventeen steps: the refusals in the order of their numbers, then the effect.
 //!
 //! A line marked `easy way N` is where the Nth of document 01's easy ways to get it wrong
-//! would go wrong; `mutants.sh` breaks each of them in turn.
+//! would go wrong, one marked `checkpoint N` where a store would promise what a crash takes away;
+//! `mutants.sh` breaks each of them in turn.
 
 use crate::machine::{
-    members, Application, Entry, Machine, Phase, Record, Repair, Side, Status, View, What,
+    members, Application, Entry, Machine, Phase, Place, Record, Repair, Side, Status, View, What,
     MAX_INTERACTIONS, MAX_TRIES,
 };
 use crate::refusal::Refusal;
@@ -38,6 +39,7 @@ impl Machine {
             Step::Lose { what, store, view } => self.lose(what, store, view),
             Step::Crash { store } => self.crash(store),
             Step::Restart { store } => self.restart(store),
+            Step::Checkpoint { store } => self.checkpoint(store),
         }
     }
 
@@ -138,7 +140,8 @@ impl Machine {
         Ok(())
     }
 
-    /// Step 6. Contents and viewlink are each written only where there was none.
+    /// Step 6. Contents and viewlink are each written only where there was none. The ack is owed
+    /// until the checkpoint.
     fn take_record(&mut self, store: u8, view: View) -> Taken {
         self.has_store(store)?;
         self.has_view(view)?;
@@ -148,9 +151,9 @@ impl Machine {
         let contents = self.record(view).contents();
         let viewlink = self.record(view).viewlink;
         let place = self.place_mut(store, view);
-        place.contents.get_or_insert(contents);
-        place.viewlink.get_or_insert(viewlink); // easy way 1
-        place.send(What::Ack);
+        place.working.contents.get_or_insert(contents);
+        place.working.viewlink.get_or_insert(viewlink); // easy way 1
+        place.ack_owed = true; // checkpoint 2
         Ok(())
     }
 
@@ -208,7 +211,8 @@ impl Machine {
         Ok(())
     }
 
-    /// Step 11. The opposite view's link there becomes the entry's own store, always.
+    /// Step 11. The opposite view's link there becomes the entry's own store, always. The uack is
+    /// owed until the checkpoint.
     fn take_update(&mut self, store: u8, view: View) -> Taken {
         self.has_store(store)?;
         self.has_view(view)?;
@@ -217,8 +221,8 @@ impl Machine {
         let entry = self.side(view).entry.ok_or(Refusal::NotThere)?;
         self.place_mut(store, view).take(What::Update)?;
 
-        self.place_mut(store, view.opposite()).viewlink = Some(entry.own);
-        self.place_mut(store, view).send(What::Uack);
+        self.place_mut(store, view.opposite()).working.viewlink = Some(entry.own);
+        self.place_mut(store, view).uack_owed = true;
         Ok(())
     }
 
@@ -252,19 +256,29 @@ impl Machine {
         self.place_mut(store, view).take(what)
     }
 
-    /// Step 15.
+    /// Step 15. The store goes down, and what it took since its last checkpoint is lost.
     fn crash(&mut self, store: u8) -> Taken {
         self.has_store(store)?;
         Refusal::StoreDown.when(!self.is_up(store))?;
-        self.stores[usize::from(store)].up = false;
+        let store = &mut self.stores[usize::from(store)];
+        store.up = false;
+        store.places_mut().for_each(Place::throw_back); // checkpoint 1
         Ok(())
     }
 
-    /// Step 16.
+    /// Step 16. It comes up as the crash left it.
     fn restart(&mut self, store: u8) -> Taken {
         self.has_store(store)?;
         Refusal::StoreUp.when(self.is_up(store))?;
         self.stores[usize::from(store)].up = true;
+        Ok(())
+    }
+
+    /// Step 17. What the store took lasts from now on, and what it owes goes off.
+    fn checkpoint(&mut self, store: u8) -> Taken {
+        self.has_store(store)?;
+        Refusal::StoreDown.when(!self.is_up(store))?;
+        self.stores[usize::from(store)].places_mut().for_each(Place::checkpoint);
         Ok(())
     }
 

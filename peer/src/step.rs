@@ -1,4 +1,4 @@
-//! The sixteen kinds of step.
+//! The seventeen kinds of step.
 
 use crate::machine::View;
 
@@ -21,10 +21,11 @@ pub enum Step {
     Lose { what: u8, store: u8, view: View },
     Crash { store: u8 },
     Restart { store: u8 },
+    Checkpoint { store: u8 },
 }
 
 /// How many kinds there are; they are numbered from 1.
-pub const KINDS: u8 = 16;
+pub const KINDS: u8 = 17;
 
 /// What a field of a step stands for.
 #[derive(Clone, Copy, PartialEq, Eq, Debug)]
@@ -49,7 +50,7 @@ impl Field {
     }
 }
 
-/// The fields of a kind in document 01's order, or nothing for an unknown kind.
+/// The fields of a kind in the documents' order, or nothing for an unknown kind.
 pub fn fields(kind: u8) -> Option<&'static [Field]> {
     use Field::*;
     match kind {
@@ -60,7 +61,7 @@ pub fn fields(kind: u8) -> Option<&'static [Field]> {
         6 | 7 | 11 | 12 => Some(&[Store, Key, Role]),
         9 | 10 | 13 => Some(&[Key, Role]),
         14 => Some(&[What, Store, Key, Role]),
-        15 | 16 => Some(&[Store]),
+        15..=17 => Some(&[Store]),
         _ => None,
     }
 }
@@ -70,7 +71,7 @@ impl Step {
         self.values().0
     }
 
-    /// The kind's number and the fields in document 01's order.
+    /// The kind's number and the fields in the documents' order.
     pub fn values(&self) -> (u8, Vec<u32>) {
         fn at(store: u8, view: View) -> Vec<u32> {
             vec![store.into(), view.key.into(), view.role.into()]
@@ -97,6 +98,7 @@ impl Step {
             Step::Lose { what, store, view } => (14, [vec![what.into()], at(store, view)].concat()),
             Step::Crash { store } => (15, vec![store.into()]),
             Step::Restart { store } => (16, vec![store.into()]),
+            Step::Checkpoint { store } => (17, vec![store.into()]),
         }
     }
 
@@ -131,6 +133,7 @@ impl Step {
             14 => Step::Lose { what: byte(0), store: byte(1), view: view(2) },
             15 => Step::Crash { store },
             16 => Step::Restart { store },
+            17 => Step::Checkpoint { store },
             _ => panic!("there is no kind {kind}"),
         }
     }

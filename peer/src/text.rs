@@ -10,13 +10,13 @@ use std::str::SplitWhitespace;
 
 use crate::book::{Book, MAX_STEPS};
 use crate::machine::{contains, members, ActorSetup};
-use crate::step::Step;
+use crate::step::{Step, KINDS};
 
 pub const STORES_FORM: &str = "stores STORES";
 pub const ACTOR_FORM: &str = "actor home HOME list LIST";
 
 /// The form of each kind of step, kind 1 first.
-pub const STEP_FORMS: [&str; 16] = [
+pub const STEP_FORMS: [&str; KINDS as usize] = [
     "send FROM TO own OWN data DATA causes CAUSES",
     "receive KEY",
     "pre-check ACTOR",
@@ -33,6 +33,7 @@ pub const STEP_FORMS: [&str; 16] = [
     "lose WHAT store STORE key KEY role ROLE",
     "crash STORE",
     "restart STORE",
+    "checkpoint STORE",
 ];
 
 /// The names of the messages that can be lost, by their numbers.

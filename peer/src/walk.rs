@@ -1,4 +1,4 @@
-//! The walk back from an interaction over its causes, by the links that the stores hold.
+//! The walk back from an interaction over its causes, by the links that last in the stores.
 
 use crate::machine::{members, Contents, Machine, View};
 use crate::refusal::Refusal;
@@ -43,12 +43,12 @@ impl Machine {
     fn viewlink_of_receipt(&self, store: u8, key: u8, walk: &mut Walk) -> Result<u8, Refusal> {
         let receipt = View::receiver(key);
         self.look_up(store, receipt, walk)?;
-        self.place(store, receipt).viewlink.ok_or(Refusal::Open)
+        self.lasting(store, receipt).viewlink.ok_or(Refusal::Open)
     }
 
     /// What a store holds of a view. Its viewlink stands beside it and costs no lookup more.
     fn look_up(&self, store: u8, view: View, walk: &mut Walk) -> Result<&Contents, Refusal> {
         walk.lookups += 1;
-        self.place(store, view).contents.as_ref().ok_or(Refusal::Open)
+        self.lasting(store, view).contents.as_ref().ok_or(Refusal::Open)
     }
 }

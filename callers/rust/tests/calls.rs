@@ -24,12 +24,14 @@ fn book(steps: &[&[u8]]) -> Vec<u8> {
     book_of(&SETUP, steps)
 }
 
-/// The head of an actor's queue is filed: pre-check, send record, the store takes it, the actor takes the ack, post-check.
+/// The head of an actor's queue is filed: pre-check, send record, the store takes it and checkpoints, the actor takes
+/// the ack, post-check.
 fn filed(actor: u8, store: u8, key: u8, role: u8) -> Vec<Vec<u8>> {
     vec![
         vec![3, actor],
         vec![4, actor],
         vec![6, store, key, role],
+        vec![17, store],
         vec![7, store, key, role],
         vec![8, actor],
     ]
@@ -63,7 +65,7 @@ fn drain_and_walk() {
     let sent = book(&[SEND, RECEIVE, SEND_ON]);
     let rested = b"3 2 2 3 3\n0 0 5 0 1\n0 1 5 1 0\n1 0 5 1 0\n1 1 5 0 1\n";
     let mut text = [LENT; TEXT];
-    assert_eq!(drain(&sent, &mut text), Ok(Drained { count: 21, listing: rested }));
+    assert_eq!(drain(&sent, &mut text), Ok(Drained { count: 25, listing: rested }));
     let mut keys = [LENT; KEYS];
     assert_eq!(walk(&sent, 1, &mut keys), Err(Refusal(13)));
     assert_eq!(walk(&sent, 2, &mut keys), Err(Refusal(2)));

@@ -6,9 +6,9 @@ use mathlib.Core.Bool.{true, false, true≢false}
 use mathlib.Core.List.{List, [], _∷_, _++_}
 use lib.Dec.{leb}
 use Rattle.protocol.specs.Words.{pick, bit, allFrom, table, times, allBelow}
-use Rattle.protocol.specs.Slots.{number, view, contents}
+use Rattle.protocol.specs.Slots.{number, view, isLasting}
 use Rattle.protocol.specs.Setup.{legalActor, legalActors, legal, freshWith}
-use Rattle.protocol.specs.Broken.{slotsFine, setupFine, rowsFine, storeFine, linksFine, viewFine, queueFine, messageFine, repairFine, entryFine, recordsFine, updatesFine, contentsFine, sameLinks, heldLinksFine, viewlinksFine, jobsFine, placesFine, wholeOf, brokenOf}
+use Rattle.protocol.specs.Broken.{slotsFine, setupFine, rowsFine, storeFine, linksFine, viewFine, queueFine, messageFine, repairFine, entryFine, recordsFine, updatesFine, contentsFine, sameLinks, heldLinksFine, viewlinksFine, notesFine, jobsFine, placesFine, wholeOf, brokenOf}
 use Rattle.protocol.specs.Closed.{closedOf}
 use Rattle.protocol.specs.declared.State.{State}
 use Rattle.protocol.specs.Send.{causesKnown, sendNo, sent}
@@ -25,8 +25,10 @@ use Rattle.protocol.specs.TakeUpdate.{takeUpdateNo, updateTaken}
 use Rattle.protocol.specs.TakeUack.{takeUackNo, uackTaken}
 use Rattle.protocol.specs.Expire.{expireNo, expired}
 use Rattle.protocol.specs.Lose.{loseNo, lost}
+use Rattle.protocol.specs.Sweep.{swept}
 use Rattle.protocol.specs.Crash.{crashNo, crashed}
 use Rattle.protocol.specs.Restart.{restartNo, restarted}
+use Rattle.protocol.specs.Checkpoint.{checkpointNo, checkpointed}
 use Rattle.protocol.specs.declared.Step.{Step}
 use Rattle.protocol.specs.declared.Step.the-variants.{TakeAck, Crash, Restart}
 use Rattle.protocol.specs.Run.{ran, freshOf}
@@ -39,11 +41,11 @@ use Rattle.guarantees.proofs.Demand.{reached, one-acknowledgement, kept-for-eve
 use Rattle.guarantees.proofs.Sent.{told}
 use Rattle.guarantees.proofs.Drained.{the-drain}
 use Rattle.bites.specs.Setting.{M}
-use Rattle.bites.specs.Witnesses.{W3}
+use Rattle.bites.specs.Witnesses.{W3, recorded}
 use Rattle.bites.specs.Variants.{Rules, right, runBy, acceptedBy, AtMostOneBy, KeptForEverBy, StaysClosedBy}
 use Rattle.bites.specs.Wrong.{lateRecord}
-use Rattle.bites.specs.Further.{acceptedAgain, acceptingAgain, twoAcks, BreaksAtMostOne, emptied, wiped, wiping, recorded, BreaksKeptForEver, resent, reopened, reopening, BreaksStaysClosed, shortDrain, BreaksDrain, shortWalk, chain, BreaksWalk, heldOnly, visitHeld, openWalk, senderOnly, BreaksEveryWalk, BitesFurther}
-use Rattle.bites.proofs.Ruled.{ruled, ranRuled, ackedRuled, wholeAlong, step-ruled, ran-ruled, acked-ruled}
+use Rattle.bites.specs.Further.{acceptedAgain, acceptingAgain, twoAcks, BreaksAtMostOne, wiped, wiping, BreaksKeptForEver, resent, reopened, reopening, BreaksStaysClosed, shortDrain, BreaksDrain, shortWalk, chain, BreaksWalk, lastingOnly, visitLasting, openWalk, senderOnly, BreaksEveryWalk, BitesFurther}
+use Rattle.bites.proofs.Ruled.{ruled, ranRuled, ackedRuled, wholeAlong, whole-split, whole-first, step-ruled, ran-ruled, acked-ruled}
 use Rattle.bites.proofs.Right.{courseRuled, stepsRuled, course-ruled, ran-right, accepted-right, acknowledged-right, after-ruled, steps-ruled}
 use Rattle.bites.proofs.Witnesses.{legal-M}
 
@@ -68,20 +70,21 @@ breaks-one rules steps w a =
     let e = acked-ruled rules (freshOf M) steps (number 0 0) w ∙ a in
     record { twice = e; refuted = λ law. let f = law M legal-M steps (number 0 0) in let z : 2 ≤ 1 = rw e at f in let y : ⊥ = omega arith in y }
 
-breaks-kept : (rules : Rules) (steps : List Step) (step : Step) (further : List Step) → wholeAlong rules (freshOf M) steps ≡ true
-    → wholeAlong rules (freshOf M) (steps ++ (step ∷ further)) ≡ true → brokenOf (ranRuled rules (freshOf M) steps) ≡ false
+pub breaks-kept : (rules : Rules) (steps : List Step) (step : Step) (further : List Step)
+    → wholeAlong rules (freshOf M) (steps ++ (step ∷ further)) ≡ true
     → acceptedInto (ranRuled rules (freshOf M) steps) (ruled rules (ranRuled rules (freshOf M) steps) step) step (number 0 0) ≡ 0 ∷ []
-    → contents (ranRuled rules (freshOf M) (steps ++ (step ∷ further))) 0 (number 0 0) .held ≡ false → BreaksKeptForEver rules steps step further
-breaks-kept rules steps step further w x z a c =
+    → isLasting (ranRuled rules (freshOf M) (steps ++ (step ∷ further))) 0 (number 0 0) ≡ false → BreaksKeptForEver rules steps step further
+breaks-kept rules steps step further x a c =
     let m = ranRuled rules (freshOf M) steps in
-    let accepts = ap (λ (n : State). acceptedBy rules n step (number 0 0)) (ran-ruled rules (freshOf M) steps w) ∙ ap (λ (n : State). acceptedInto m n step (number 0 0)) (step-ruled rules m step z) ∙ a in
-    let gone = ap (λ (n : State). contents n 0 (number 0 0) .held) (ran-ruled rules (freshOf M) (steps ++ (step ∷ further)) x) ∙ c in
+    let w = whole-split rules (freshOf M) steps (step ∷ further) x in
+    let accepts = ap (λ (n : State). acceptedBy rules n step (number 0 0)) (ran-ruled rules (freshOf M) steps (w .0)) ∙ ap (λ (n : State). acceptedInto m n step (number 0 0)) (step-ruled rules m step (whole-first rules m step further (w .1))) ∙ a in
+    let gone = ap (λ (n : State). isLasting n 0 (number 0 0)) (ran-ruled rules (freshOf M) (steps ++ (step ∷ further)) x) ∙ c in
     record { accepts = accepts; gone = gone; refuted = λ law. true≢false (sym (law M legal-M steps step 0 0 0 (omega arith) accepts further .held) ∙ gone) }
 
-breaks-closed : (rules : Rules) (steps further : List Step) → wholeAlong rules (freshOf M) steps ≡ true → wholeAlong rules (freshOf M) (steps ++ further) ≡ true
+breaks-closed : (rules : Rules) (steps further : List Step) → wholeAlong rules (freshOf M) (steps ++ further) ≡ true
     → closedOf (ranRuled rules (freshOf M) steps) 0 ≡ true → closedOf (ranRuled rules (freshOf M) (steps ++ further)) 0 ≡ false → BreaksStaysClosed rules steps further
-breaks-closed rules steps further w x c o =
-    let closed = ap (λ (n : State). closedOf n 0) (ran-ruled rules (freshOf M) steps w) ∙ c in
+breaks-closed rules steps further x c o =
+    let closed = ap (λ (n : State). closedOf n 0) (ran-ruled rules (freshOf M) steps (whole-split rules (freshOf M) steps further x .0)) ∙ c in
     let unclosed = ap (λ (n : State). closedOf n 0) (ran-ruled rules (freshOf M) (steps ++ further) x) ∙ o in
     record { closed = closed; unclosed = unclosed; refuted = λ law. true≢false (sym (law M legal-M steps further 0 closed) ∙ unclosed) }
 
@@ -92,14 +95,14 @@ ruledRun steps = ranRuled right (freshOf M) steps
 pub whole : (steps : List Step) → brokenOf (ruledRun steps) ≡ false
 whole steps = subst (λ (m : State). brokenOf m ≡ false) (after-ruled M legal-M steps) (reached M legal-M steps .fine)
 
-breaks-drain : (steps : List Step) → allUp (ruledRun steps) ≡ true → 0 < ruledRun steps .made → closedOf (courseRuled (ruledRun steps .made * 18 - 1) (ruledRun steps) .state) 0 ≡ false → BreaksDrain shortDrain steps
+breaks-drain : (steps : List Step) → allUp (ruledRun steps) ≡ true → 0 < ruledRun steps .made → closedOf (courseRuled (ruledRun steps .made * 22 - 1) (ruledRun steps) .state) 0 ≡ false → BreaksDrain shortDrain steps
 unfolding shortDrain
 breaks-drain steps u h c =
     let run = after-ruled M legal-M steps in
     let up = ap allUp run ∙ u in
     let made : 0 < after M steps .made = rw run h in
     let unclosed : closedOf (shortDrain (after M steps) .state) 0 ≡ false =
-    ap (λ (m : State). closedOf (shortDrain m .state) 0) run ∙ rw (whole steps, u, course-ruled (ruledRun steps .made * 18 - 1) (ruledRun steps) (whole steps)) c in
+    ap (λ (m : State). closedOf (shortDrain m .state) 0) run ∙ rw (whole steps, u, course-ruled (ruledRun steps .made * 22 - 1) (ruledRun steps) (whole steps)) c in
     record { up = up; made = made; unclosed = unclosed; refuted = λ law. true≢false (sym (law M legal-M steps up .closes 0 made) ∙ unclosed) }
 
 -- 7: the walk of a run, and of a drained one
@@ -129,7 +132,7 @@ breaks-walk steps u h a b c =
     record { up = up; made = made; reached = reach; missing = missing; refuted = λ law. let z : _≡_ {A = ℕ} 1 0 = sym (law M legal-M steps up 2 made .once 0 reach) ∙ missing in let y : ⊥ = omega arith in y }
 
 breaks-every-walk : (steps : List Step) → 0 < ruledRun steps .made
-    → pick (leb (ruledRun steps .made) 0) (refusedWalk 2) (answerOf (visitHeld 16 (ruledRun steps) 0 (view (ruledRun steps) (number 0 0) .store + 1) unmet)) .answer ≡ 0
+    → pick (leb (ruledRun steps .made) 0) (refusedWalk 2) (answerOf (visitLasting 16 (ruledRun steps) 0 (view (ruledRun steps) (number 0 0) .store + 1) unmet)) .answer ≡ 0
     → closedOf (ruledRun steps) 0 ≡ false → BreaksEveryWalk openWalk steps
 unfolding openWalk
 breaks-every-walk steps h a c =
@@ -140,15 +143,15 @@ breaks-every-walk steps h a c =
     record { made = made; answered = answered; unclosed = unclosed; refuted = λ law. true≢false (sym (law M legal-M steps 0 made .closed answered 0 SentReach.here) ∙ unclosed) }
 
 pub bites-further : BitesFurther
-unfolding allFrom table times allBelow legalActor legalActors legal freshWith slotsFine setupFine rowsFine linksFine viewFine queueFine messageFine repairFine entryFine recordsFine updatesFine contentsFine sameLinks heldLinksFine viewlinksFine storeFine jobsFine placesFine wholeOf brokenOf closedOf causesKnown sendNo sent receiveNo receivedOf preCheckNo preChecked sendRecordNo recordSent timeoutNo timedOut takeRecordNo recordTaken takeAckNo ackTaken postCheckNo postChecked takeRepairNo repairTaken sendUpdateNo updateSent takeUpdateNo updateTaken takeUackNo uackTaken expireNo expired loseNo lost crashNo crashed restartNo restarted lowest jobStep entryStep turnOf foundOf receiptOf hopOf each visitOf acceptedInto ruled ranRuled ackedRuled courseRuled wholeAlong acceptedAgain emptied wiped resent reopened heldOnly visitHeld
+unfolding allFrom table times allBelow legalActor legalActors legal freshWith slotsFine setupFine rowsFine linksFine viewFine queueFine messageFine repairFine entryFine recordsFine updatesFine contentsFine sameLinks heldLinksFine viewlinksFine notesFine storeFine jobsFine placesFine wholeOf brokenOf closedOf causesKnown sendNo sent receiveNo receivedOf preCheckNo preChecked sendRecordNo recordSent timeoutNo timedOut takeRecordNo recordTaken takeAckNo ackTaken postCheckNo postChecked takeRepairNo repairTaken sendUpdateNo updateSent takeUpdateNo updateTaken takeUackNo uackTaken expireNo expired loseNo lost swept crashNo crashed restartNo restarted checkpointNo checkpointed lowest jobStep entryStep turnOf foundOf receiptOf hopOf each visitOf acceptedInto ruled ranRuled ackedRuled courseRuled wholeAlong acceptedAgain wiped resent reopened lastingOnly visitLasting
 bites-further =
     record {
       atMostOne = at-most-one-right;
       keptForEver = kept-right;
       staysClosed = closed-right;
       acceptedAgain = breaks-one acceptingAgain twoAcks refl refl;
-      wiped = breaks-kept wiping recorded (TakeAck 0 0 0) (Crash 0 ∷ []) refl refl refl refl refl;
-      reopened = breaks-closed reopening lateRecord (Crash 1 ∷ Restart 1 ∷ []) refl refl refl refl;
+      wiped = breaks-kept wiping recorded (TakeAck 0 0 0) (Crash 0 ∷ []) refl refl refl;
+      reopened = breaks-closed reopening lateRecord (Crash 1 ∷ Restart 1 ∷ []) refl refl refl;
       shortDrain = breaks-drain W3 refl (omega arith) refl;
       shortWalk = breaks-walk chain refl (omega arith) refl refl refl;
       openWalk = breaks-every-walk senderOnly (omega arith) refl refl;

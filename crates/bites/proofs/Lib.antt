@@ -3,3 +3,4 @@ pub mod Right
 pub mod Witnesses
 pub mod Wrong
 pub mod Further
+pub mod Checkpoints

@@ -72,7 +72,7 @@ course-ruled (suc n) m e = go (turnOf m) (λ s. course-ruled n (ruled right m s)
     go (Take s) h = ap (λ (x : State). behind s (course n x)) (next-ruled m s e) ∙ ap (behind s) (h s)
 
 abbrev pub stepsRuled : State → List Step
-stepsRuled m = courseRuled (m .made * 18) m .steps
+stepsRuled m = courseRuled (m .made * 22) m .steps
 
 module _ (u : Setup) (l : Legal u) where
   whole : (steps : List Step) → wholeAlong right (freshOf u) steps ≡ true
@@ -87,7 +87,7 @@ module _ (u : Setup) (l : Legal u) where
   pub steps-ruled : (steps : List Step) → stepsOf (after u steps) ≡ stepsRuled (ranRuled right (freshOf u) steps)
   steps-ruled steps =
       let m = after u steps in
-      ap (λ (c : Course). c .steps) (course-ruled (m .made * 18) m (run-reached (freshOf u) (fresh-reached u l) steps .fine))
+      ap (λ (c : Course). c .steps) (course-ruled (m .made * 22) m (run-reached (freshOf u) (fresh-reached u l) steps .fine))
       ∙ ap stepsRuled (after-ruled steps)
 
   pub accepted-ruled : (steps : List Step) (s : Step) (v : ℕ) → accepted (after u steps) s v ≡ acceptedInto (ranRuled right (freshOf u) steps) (ruled right (ranRuled right (freshOf u) steps) s) s v

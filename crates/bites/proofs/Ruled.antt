@@ -9,7 +9,7 @@ use Rattle.protocol.specs.Setup.{answered}
 use Rattle.protocol.specs.Broken.{brokenOf}
 use Rattle.protocol.specs.declared.State.{State}
 use borrow.Author.Tests.{not-true}
-use Rattle.unbroken.proofs.Laws.Tests.{and-left, and-right}
+use Rattle.unbroken.proofs.Laws.Tests.{and-left, and-right, and-both}
 use Rattle.protocol.specs.Rule.{decided}
 use Rattle.protocol.specs.Step.{numberOf}
 use Rattle.protocol.specs.declared.Step.{Step}
@@ -37,11 +37,24 @@ unfolding stepBy ruled
 step-ruled rules m s e = ap (λ (b : Bool). pick b (answered 1 m) (decided (numberOf m s) m (rules m s)) .state) e
 
 module _ (rules : Rules) where
+  -- a run that goes on is whole along its start, and along the rest
+  pub whole-split : (m : State) (steps further : List Step) → wholeAlong rules m (steps ++ further) ≡ true
+      → (wholeAlong rules m steps ≡ true) × (wholeAlong rules (ranRuled rules m steps) further ≡ true)
+  unfolding wholeAlong ranRuled
+  whole-split m [] further e = (refl, e)
+  whole-split m (s ∷ ss) further e =
+      let h = whole-split (ruled rules m s) ss further (and-right (not (brokenOf m)) (wholeAlong rules (ruled rules m s) (ss ++ further)) e) in
+      (and-both (not (brokenOf m)) (wholeAlong rules (ruled rules m s) ss) (and-left (not (brokenOf m)) (wholeAlong rules (ruled rules m s) (ss ++ further)) e) (h .0), h .1)
+
+  pub whole-first : (m : State) (s : Step) (ss : List Step) → wholeAlong rules m (s ∷ ss) ≡ true → brokenOf m ≡ false
+  unfolding wholeAlong
+  whole-first m s ss e = not-true (brokenOf m) (and-left (not (brokenOf m)) (wholeAlong rules (ruled rules m s) ss) e)
+
   pub ran-ruled : (m : State) (steps : List Step) → wholeAlong rules m steps ≡ true → ranBy rules m steps ≡ ranRuled rules m steps
   unfolding ranBy ranRuled wholeAlong
   ran-ruled m [] e = refl
   ran-ruled m (s ∷ ss) e =
-      let h = not-true (brokenOf m) (and-left (not (brokenOf m)) (wholeAlong rules (ruled rules m s) ss) e) in
+      let h = whole-first m s ss e in
       ap (λ (n : State). ranBy rules n ss) (step-ruled rules m s h)
       ∙ ran-ruled (ruled rules m s) ss (and-right (not (brokenOf m)) (wholeAlong rules (ruled rules m s) ss) e)
 
@@ -49,6 +62,6 @@ module _ (rules : Rules) where
   unfolding acknowledgedBy ackedRuled wholeAlong
   acked-ruled m [] v e = refl
   acked-ruled m (s ∷ ss) v e =
-      let h = not-true (brokenOf m) (and-left (not (brokenOf m)) (wholeAlong rules (ruled rules m s) ss) e) in
+      let h = whole-first m s ss e in
       ap (λ (n : State). acceptedInto m n s v ++ acknowledgedBy rules n ss v) (step-ruled rules m s h)
       ∙ ap (λ (l : List ℕ). acceptedInto m (ruled rules m s) s v ++ l) (acked-ruled (ruled rules m s) ss v (and-right (not (brokenOf m)) (wholeAlong rules (ruled rules m s) ss) e))

@@ -6,7 +6,7 @@ use mathlib.Core.Bool.{true}
 use mathlib.Core.List.{List, [], _∷_, _++_}
 use lib.ListN.{length}
 use Rattle.protocol.specs.Words.{bit, allFrom, table, allBelow}
-use Rattle.protocol.specs.Slots.{number, view, isUp}
+use Rattle.protocol.specs.Slots.{number, view, isUp, isHeld, isLasting}
 use Rattle.protocol.specs.Setup.{legalActor, legalActors, legal, freshWith}
 use Rattle.protocol.specs.Closed.{closedOf}
 use Rattle.protocol.specs.declared.State.{State}
@@ -24,8 +24,10 @@ use Rattle.protocol.specs.TakeUpdate.{takeUpdateNo, updateTaken}
 use Rattle.protocol.specs.TakeUack.{takeUackNo, uackTaken}
 use Rattle.protocol.specs.Expire.{expireNo, expired}
 use Rattle.protocol.specs.Lose.{loseNo, lost}
+use Rattle.protocol.specs.Sweep.{swept}
 use Rattle.protocol.specs.Crash.{crashNo, crashed}
 use Rattle.protocol.specs.Restart.{restartNo, restarted}
+use Rattle.protocol.specs.Checkpoint.{checkpointNo, checkpointed}
 use Rattle.protocol.specs.declared.Step.{Step}
 use Rattle.protocol.specs.declared.Step.the-variants.{TakeAck}
 use Rattle.protocol.specs.Run.{freshOf}
@@ -34,7 +36,7 @@ use Rattle.reads.proofs.Example.{example-runs}
 use Rattle.guarantees.proofs.Drained.{the-drain}
 use Rattle.guarantees.specs.Acknowledged.{Legal, after, acceptedInto, acknowledged}
 use Rattle.bites.specs.Setting.{M}
-use Rattle.bites.specs.Witnesses.{W3, W4, movedRecord, W5, W12, stayedReceipt, movedReceipt, downBetween, ackTakenDown, ackTakenThenUp, ackLostThenUp, Closes, Accepts, AcceptsEffect, Witnesses, BoundMet}
+use Rattle.bites.specs.Witnesses.{W3, W4, movedRecord, W5, W12, stayedReceipt, movedReceipt, takenOnly, recorded, updated, neverKept, downBetween, ackTakenDown, ackTakenThenUp, ackLostThenUp, Closes, Accepts, AcceptsEffect, Witnesses, BoundMet}
 use Rattle.bites.specs.Variants.{right}
 use Rattle.bites.proofs.Ruled.{ruled, ranRuled, ackedRuled}
 use Rattle.bites.proofs.Right.{courseRuled, stepsRuled, after-ruled, accepted-ruled, acknowledged-ruled, steps-ruled}
@@ -70,7 +72,7 @@ accepts-effect steps s k p j e b =
     record { accepts = accepts steps s k 0 p e; caused = ap (λ (m : State). bit (view m (number k 0) .causes) j) (after-ruled M legal-M steps) ∙ b }
 
 pub witnesses : Witnesses
-unfolding allFrom table allBelow freshWith closedOf causesKnown sendNo sent receiveNo receivedOf preCheckNo preChecked sendRecordNo recordSent timeoutNo timedOut takeRecordNo recordTaken takeAckNo ackTaken postCheckNo postChecked takeRepairNo repairTaken sendUpdateNo updateSent takeUpdateNo updateTaken takeUackNo uackTaken expireNo expired loseNo lost crashNo crashed restartNo restarted lowest jobStep entryStep turnOf acceptedInto ruled ranRuled ackedRuled courseRuled
+unfolding allFrom table allBelow freshWith closedOf causesKnown sendNo sent receiveNo receivedOf preCheckNo preChecked sendRecordNo recordSent timeoutNo timedOut takeRecordNo recordTaken takeAckNo ackTaken postCheckNo postChecked takeRepairNo repairTaken sendUpdateNo updateSent takeUpdateNo updateTaken takeUackNo uackTaken expireNo expired loseNo lost swept crashNo crashed restartNo restarted checkpointNo checkpointed lowest jobStep entryStep turnOf acceptedInto ruled ranRuled ackedRuled courseRuled
 witnesses =
     record {
       legal = legal-M;
@@ -81,23 +83,30 @@ witnesses =
       effect = closes W12 1 1 0 refl refl refl refl;
       crashThenAck = closes ackTakenThenUp 0 0 1 refl refl refl refl;
       crashThenTimeout = closes ackLostThenUp 0 2 1 refl refl refl refl;
+      crashThenNothing = closes neverKept 0 2 1 refl refl refl refl;
       leftAck = acknowledged-ruled M legal-M W5 (number 0 0) ∙ refl;
       down = ap (λ (m : State). isUp m 0) (after-ruled M legal-M ackTakenDown) ∙ refl;
       downAck = rw (after-ruled M legal-M ackTakenDown) (omega arith);
       fromMoved = accepts movedRecord (TakeAck 2 0 0) 0 0 2 refl;
       fromDown = accepts downBetween (TakeAck 0 0 0) 0 0 0 refl;
+      fromUp = accepts recorded (TakeAck 0 0 0) 0 0 0 refl;
+      ackFlies = rw (after-ruled M legal-M recorded) (omega arith);
+      uackFlies = rw (after-ruled M legal-M updated) (omega arith);
+      lasting = ap (λ (m : State). isLasting m 0 (number 0 0)) (after-ruled M legal-M recorded) ∙ refl;
+      working = ap (λ (m : State). isHeld m 0 (number 0 0)) (after-ruled M legal-M takenOnly) ∙ refl;
+      lost = ap (λ (m : State). isHeld m 0 (number 0 0)) (after-ruled M legal-M neverKept) ∙ refl;
       afterStay = accepts-effect stayedReceipt (TakeAck 1 1 0) 1 1 0 refl refl;
       afterMove = accepts-effect movedReceipt (TakeAck 1 1 0) 1 1 0 refl refl;
       book = example-runs .refusal;
     }
 
-at-least : (count made n : ℕ) → count ≡ 18 → made ≡ 1 → count ≤ made * n → 18 ≤ n
-at-least count made n c m h = let g : 18 ≤ 1 * n = rw (c, m) at h in omega arith
+at-least : (count made n : ℕ) → count ≡ 22 → made ≡ 1 → count ≤ made * n → 22 ≤ n
+at-least count made n c m h = let g : 22 ≤ 1 * n = rw (c, m) at h in omega arith
 
 pub bound-met : BoundMet
-unfolding allFrom table allBelow freshWith causesKnown sendNo sent receiveNo receivedOf preCheckNo preChecked sendRecordNo recordSent timeoutNo timedOut takeRecordNo recordTaken takeAckNo ackTaken postCheckNo postChecked takeRepairNo repairTaken sendUpdateNo updateSent takeUpdateNo updateTaken takeUackNo uackTaken expireNo expired loseNo lost crashNo crashed restartNo restarted lowest jobStep entryStep turnOf ruled ranRuled courseRuled
+unfolding allFrom table allBelow freshWith causesKnown sendNo sent receiveNo receivedOf preCheckNo preChecked sendRecordNo recordSent timeoutNo timedOut takeRecordNo recordTaken takeAckNo ackTaken postCheckNo postChecked takeRepairNo repairTaken sendUpdateNo updateSent takeUpdateNo updateTaken takeUackNo uackTaken expireNo expired loseNo lost swept crashNo crashed restartNo restarted checkpointNo checkpointed lowest jobStep entryStep turnOf ruled ranRuled courseRuled
 bound-met =
     let up = witnesses .bothMoved .up in
     let made : after M W3 .made ≡ 1 = ap (λ (m : State). m .made) (after-ruled M legal-M W3) ∙ refl in
-    let count : drainOf (after M W3) .count ≡ 18 = the-drain M legal-M W3 up .count ∙ ap length (steps-ruled M legal-M W3) ∙ refl in
+    let count : drainOf (after M W3) .count ≡ 22 = the-drain M legal-M W3 up .count ∙ ap length (steps-ruled M legal-M W3) ∙ refl in
     record { made = made; count = count; least = λ n f. at-least (drainOf (after M W3) .count) (after M W3 .made) n count made (f M legal-M W3 up) }

@@ -7,9 +7,9 @@ use mathlib.Core.Bool.{true, false}
 use mathlib.Core.List.{List, [], _∷_, _++_, append-nil}
 use lib.ListN.{getD}
 use Rattle.protocol.specs.Words.{bit, allFrom, table, times, allBelow}
-use Rattle.protocol.specs.Slots.{number, view, viewlink}
+use Rattle.protocol.specs.Slots.{number, view, lastingViewlink as viewlink}
 use Rattle.protocol.specs.Setup.{legalActor, legalActors, legal, freshWith}
-use Rattle.protocol.specs.Broken.{slotsFine, setupFine, rowsFine, linksFine, viewFine, queueFine, messageFine, repairFine, entryFine, recordsFine, updatesFine, contentsFine, sameLinks, heldLinksFine, viewlinksFine, storeFine, jobsFine, placesFine, wholeOf, brokenOf}
+use Rattle.protocol.specs.Broken.{slotsFine, setupFine, rowsFine, linksFine, viewFine, queueFine, messageFine, repairFine, entryFine, recordsFine, updatesFine, contentsFine, sameLinks, heldLinksFine, viewlinksFine, notesFine, storeFine, jobsFine, placesFine, wholeOf, brokenOf}
 use Rattle.protocol.specs.Closed.{closedOf}
 use Rattle.protocol.specs.declared.State.{State}
 use Rattle.protocol.specs.Send.{causesKnown, sendNo, sent}
@@ -26,8 +26,10 @@ use Rattle.protocol.specs.TakeUpdate.{takeUpdateNo, updateTaken}
 use Rattle.protocol.specs.TakeUack.{takeUackNo, uackTaken}
 use Rattle.protocol.specs.Expire.{expireNo, expired}
 use Rattle.protocol.specs.Lose.{loseNo, lost}
+use Rattle.protocol.specs.Sweep.{swept}
 use Rattle.protocol.specs.Crash.{crashNo, crashed}
 use Rattle.protocol.specs.Restart.{restartNo, restarted}
+use Rattle.protocol.specs.Checkpoint.{checkpointNo, checkpointed}
 use Rattle.protocol.specs.declared.Step.{Step}
 use Rattle.protocol.specs.declared.Step.the-variants.{TakeAck}
 use Rattle.protocol.specs.Run.{ran, freshOf}
@@ -55,16 +57,15 @@ cause-links-right u l steps step k p e j hj b =
 
 -- the premises of 5 with a viewlink elsewhere refute it
 no-view-links : (rules : Rules) (steps : List Step) (s r link : ℕ) → closedOf (runBy rules M steps) 0 ≡ true → AckedIn rules M steps (number 0 0) s
-    → AckedIn rules M steps (number 0 1) r → viewlink (runBy rules M steps) r (number 0 1) ≡ link + 1 → link ≢ s → ¬ ViewLinksBy rules
+    → AckedIn rules M steps (number 0 1) r → viewlink (runBy rules M steps) r (number 0 1) ≡ link → link ≢ s + 1 → ¬ ViewLinksBy rules
 no-view-links rules steps s r link c a b e n law =
     let f = law M legal-M steps [] 0 1 r s (omega arith) c b a in
-    let g : link + 1 ≡ s + 1 = sym e ∙ rw (append-nil steps) at f in
-    n (omega (arith, g))
+    n (sym e ∙ rw (append-nil steps) at f)
 
-breaks-view-links : (rules : Rules) (steps : List Step) (s r link : ℕ) → wholeAlong rules (freshOf M) steps ≡ true
+pub breaks-view-links : (rules : Rules) (steps : List Step) (s r link : ℕ) → wholeAlong rules (freshOf M) steps ≡ true
     → closedOf (ranRuled rules (freshOf M) steps) 0 ≡ true → ackedRuled rules (freshOf M) steps (number 0 0) ≡ s ∷ []
-    → ackedRuled rules (freshOf M) steps (number 0 1) ≡ r ∷ [] → viewlink (ranRuled rules (freshOf M) steps) r (number 0 1) ≡ link + 1
-    → link ≢ s → BreaksViewLinks rules steps s r link
+    → ackedRuled rules (freshOf M) steps (number 0 1) ≡ r ∷ [] → viewlink (ranRuled rules (freshOf M) steps) r (number 0 1) ≡ link
+    → link ≢ s + 1 → BreaksViewLinks rules steps s r link
 breaks-view-links rules steps s r link w c a b e n =
     let run = ran-ruled rules (freshOf M) steps w in
     let closed = ap (λ (m : State). closedOf m 0) run ∙ c in
@@ -112,15 +113,23 @@ breaks-cause-links rules steps step p q link w z a c b e n =
       refuted = no-cause-links rules steps step p q link accepts caused received names n;
     }
 
+-- the runs of two wrong rules, apart from the others: one declaration has only so many steps
+repairs-broken : BreaksViewLinks finishing replacedDestination 2 2 1 × BreaksViewLinks leaving secondRepair 2 2 1
+unfolding allFrom table times allBelow legalActor legalActors legal freshWith slotsFine setupFine rowsFine linksFine viewFine queueFine messageFine repairFine entryFine recordsFine updatesFine contentsFine sameLinks heldLinksFine viewlinksFine notesFine storeFine jobsFine placesFine wholeOf brokenOf closedOf causesKnown sendNo sent receiveNo receivedOf preCheckNo preChecked sendRecordNo recordSent timeoutNo timedOut takeRecordNo recordTaken takeAckNo ackTaken postCheckNo postChecked takeRepairNo repairTaken sendUpdateNo updateSent takeUpdateNo updateTaken takeUackNo uackTaken expireNo expired loseNo lost swept crashNo crashed restartNo restarted checkpointNo checkpointed acceptedInto ruled ranRuled ackedRuled wholeAlong finishedEarly oneRedirected
+repairs-broken = (
+  breaks-view-links finishing replacedDestination 2 2 1 refl refl refl refl refl (λ e. omega arith),
+  breaks-view-links leaving secondRepair 2 2 1 refl refl refl refl refl (λ e. omega arith),
+)
+
 pub bites : Bites
-unfolding allFrom table times allBelow legalActor legalActors legal freshWith slotsFine setupFine rowsFine linksFine viewFine queueFine messageFine repairFine entryFine recordsFine updatesFine contentsFine sameLinks heldLinksFine viewlinksFine storeFine jobsFine placesFine wholeOf brokenOf closedOf causesKnown sendNo sent receiveNo receivedOf preCheckNo preChecked sendRecordNo recordSent timeoutNo timedOut takeRecordNo recordTaken takeAckNo ackTaken postCheckNo postChecked takeRepairNo repairTaken sendUpdateNo updateSent takeUpdateNo updateTaken takeUackNo uackTaken expireNo expired loseNo lost crashNo crashed restartNo restarted acceptedInto ruled ranRuled ackedRuled wholeAlong overwritten finishedEarly oneRedirected unchecked acceptedLate
+unfolding allFrom table times allBelow legalActor legalActors legal freshWith slotsFine setupFine rowsFine linksFine viewFine queueFine messageFine repairFine entryFine recordsFine updatesFine contentsFine sameLinks heldLinksFine viewlinksFine notesFine storeFine jobsFine placesFine wholeOf brokenOf closedOf causesKnown sendNo sent receiveNo receivedOf preCheckNo preChecked sendRecordNo recordSent timeoutNo timedOut takeRecordNo recordTaken takeAckNo ackTaken postCheckNo postChecked takeRepairNo repairTaken sendUpdateNo updateSent takeUpdateNo updateTaken takeUackNo uackTaken expireNo expired loseNo lost swept crashNo crashed restartNo restarted checkpointNo checkpointed acceptedInto ruled ranRuled ackedRuled wholeAlong overwritten unchecked acceptedLate
 bites =
     record {
       causeLinks = cause-links-right;
       viewLinks = view-links-right;
-      overwritten = breaks-view-links overwriting lateRecord 2 1 0 refl refl refl refl refl (λ e. omega arith);
-      finishedEarly = breaks-view-links finishing replacedDestination 2 2 0 refl refl refl refl refl (λ e. omega arith);
-      oneRedirected = breaks-view-links leaving secondRepair 2 2 0 refl refl refl refl refl (λ e. omega arith);
+      overwritten = breaks-view-links overwriting lateRecord 2 1 1 refl refl refl refl refl (λ e. omega arith);
+      finishedEarly = repairs-broken .0;
+      oneRedirected = repairs-broken .1;
       unchecked = breaks-cause-links sendingOnly movedReceipt (TakeAck 1 1 0) 1 2 1 refl refl refl refl refl refl (λ e. omega arith);
-      acceptedLate = breaks-view-links accepting leftStore 0 1 2 refl refl refl refl refl (λ e. omega arith);
+      acceptedLate = breaks-view-links accepting leftStore 0 1 3 refl refl refl refl refl (λ e. omega arith);
     }

@@ -4,10 +4,11 @@ use mathlib.Core.Path.{_≡_}
 use mathlib.Core.Bool.{Bool, true, false, _&&_, not}
 use mathlib.Core.List.{List, [], _∷_, _++_}
 use lib.Dec.{eqb, leb}
-use lib.ListN.{getD}
 use Rattle.protocol.specs.Words.{pick, times}
-use Rattle.protocol.specs.Slots.{number, statusNumber, view, entry, contents, noContents}
-use Rattle.protocol.specs.Writes.{withView, withEntry, withContentsAt}
+use Rattle.protocol.specs.Slots.{number, statusNumber, view, entry, isLasting}
+use Rattle.protocol.specs.Stores.{freshStore}
+use Rattle.protocol.specs.Writes.{withView, withEntry, withShelf}
+use Rattle.protocol.specs.Sweep.{swept}
 use Rattle.protocol.specs.Broken.{brokenOf}
 use Rattle.protocol.specs.Closed.{closedOf}
 use Rattle.protocol.specs.declared.State.{State}
@@ -19,20 +20,19 @@ use Rattle.protocol.specs.declared.Walked.{Walked}
 use Rattle.protocol.specs.Views.{phased}
 use Rattle.protocol.specs.TakeAck.{ackedView, ackTaken}
 use Rattle.protocol.specs.SendUpdate.{inStatus}
-use Rattle.protocol.specs.Crash.{crashed}
 use Rattle.protocol.specs.Restart.{restarted}
 use Rattle.protocol.specs.Step.{afterOf}
 use Rattle.protocol.specs.Kinds.{onTakeAck, onCrash, onRestart}
 use Rattle.protocol.specs.declared.Step.{Step}
-use Rattle.protocol.specs.declared.Step.the-variants.{Send, Receive, SendRecord, Timeout, TakeRecord, TakeAck, PostCheck, Crash, Restart}
+use Rattle.protocol.specs.declared.Step.the-variants.{Send, Receive, SendRecord, Timeout, TakeAck, PostCheck, Crash, Restart}
 use Rattle.protocol.specs.Run.{freshOf}
 use Rattle.protocol.specs.Drain.{allUp, course, drained, drainOf}
 use Rattle.protocol.specs.Walk.{added, spoiled, lookedUp, causesHeld, each, toCause, visitOf, unmet, refusedWalk, answerOf}
 use Rattle.reaches.specs.Reaches.{keysOf}
 use Rattle.guarantees.specs.Acknowledged.{after}
 use Rattle.guarantees.specs.Guarantees.{DrainedBy, SentReach, WalkedBy, AnsweredBy}
-use Rattle.bites.specs.Setting.{M, S, sends, settles}
-use Rattle.bites.specs.Witnesses.{W3, W12}
+use Rattle.bites.specs.Setting.{M, S, sends, keeps, settles}
+use Rattle.bites.specs.Witnesses.{W3, W12, recorded}
 use Rattle.bites.specs.Variants.{Rules, right, runBy, acceptedBy, acknowledgedBy, AtMostOneBy, KeptForEverBy, StaysClosedBy}
 use Rattle.bites.specs.Wrong.{lateRecord}
 
@@ -48,31 +48,24 @@ acceptingAgain m s = onTakeAck s (acceptedAgain m) (afterOf m s)
 -- The record goes to store 0, to store 2 and to store 0 again, which acknowledges both copies.
 abbrev pub twoAcks : List Step
 twoAcks =
-    S ∷ sends 0 ++ Timeout 0 2 ∷ SendRecord 0 ∷ Timeout 0 0 ∷ SendRecord 0 ∷ TakeRecord 0 0 0 ∷ TakeRecord 0 0 0 ∷ TakeAck 0 0 0 ∷ PostCheck 0
+    S ∷ sends 0 ++ Timeout 0 2 ∷ SendRecord 0 ∷ Timeout 0 0 ∷ SendRecord 0 ∷ keeps 0 0 0 ++ keeps 0 0 0 ++ TakeAck 0 0 0 ∷ PostCheck 0
     ∷ TakeAck 0 0 0 ∷ []
 
 pub record BreaksAtMostOne (rules : Rules) (steps : List Step) : Type 0 where
   pub twice : acknowledgedBy rules (freshOf M) steps (number 0 0) ≡ 0 ∷ 0 ∷ []
   pub refuted : ¬ AtMostOneBy rules
 
--- 2. A crash that wipes a store: what it held is gone.
-unfoldable pub emptied : ℕ → State → ℕ → State
-emptied zero m p = m
-emptied (suc v) m p = withContentsAt (emptied v m p) p v noContents
-
+-- 2. A crash that wipes a store: its checkpoint is gone too.
 unfoldable pub wiped : State → ℕ → State
-wiped m p = emptied 32 (crashed m p) p
+wiped m p = swept (withShelf m p (freshStore false)) p
 
 abbrev pub wiping : Rules
 wiping m s = onCrash s (wiped m) (afterOf m s)
 
--- Store 0 takes the sender's record; its ack is accepted, and it goes down.
-abbrev pub recorded : List Step
-recorded = S ∷ sends 0 ++ TakeRecord 0 0 0 ∷ []
-
+-- Its run is `recorded`: store 0 takes the sender's record and makes a checkpoint; its ack is accepted, and it goes down.
 pub record BreaksKeptForEver (rules : Rules) (steps : List Step) (step : Step) (further : List Step) : Type 0 where
   pub accepts : acceptedBy rules (runBy rules M steps) step (number 0 0) ≡ 0 ∷ []
-  pub gone : contents (runBy rules M (steps ++ (step ∷ further))) 0 (number 0 0) .held ≡ false
+  pub gone : isLasting (runBy rules M (steps ++ (step ∷ further))) 0 (number 0 0) ≡ false
   pub refuted : ¬ KeptForEverBy rules
 
 -- 4. A restart that reopens: every update that was done at the store is to-send again.
@@ -100,7 +93,7 @@ unfoldable pub shortDrain : State → Drained
 shortDrain m =
     pick (brokenOf m) (record { state = m; answer = 1; count = 0 })
     (pick (not (allUp m)) (record { state = m; answer = 5; count = 0 })
-    (drained (course (m .made * 18 - 1) m)))
+    (drained (course (m .made * 22 - 1) m)))
 
 pub record BreaksDrain (drain : State → Drained) (steps : List Step) : Type 0 where
   pub up : allUp (after M steps) ≡ true
@@ -125,18 +118,18 @@ pub record BreaksWalk (walk : State → ℕ → Walked) (steps : List Step) : Ty
   pub missing : times 0 (keysOf (walk (drainOf (after M steps) .state) 2)) ≡ 0
   pub refuted : ¬ WalkedBy walk
 
--- .. and a walk that takes a record for closed because a store holds it.
-unfoldable pub heldOnly : State → ℕ → ℕ → Bool
-heldOnly m k link = not (eqb link 0) && contents m (link - 1) (number k 0) .held
+-- .. and a walk that takes a record for closed because a store has it for ever.
+unfoldable pub lastingOnly : State → ℕ → ℕ → Bool
+lastingOnly m k link = not (eqb link 0) && isLasting m (link - 1) (number k 0)
 
-unfoldable pub visitHeld : ℕ → State → ℕ → ℕ → Met → Met
-visitHeld zero m k link w = w
-visitHeld (suc depth) m k link w =
-    pick (heldOnly m k link) (each (toCause (visitHeld depth m) m k link) (causesHeld m k link) k 0 (added (lookedUp w) k)) (spoiled w)
+unfoldable pub visitLasting : ℕ → State → ℕ → ℕ → Met → Met
+visitLasting zero m k link w = w
+visitLasting (suc depth) m k link w =
+    pick (lastingOnly m k link) (each (toCause (visitLasting depth m) m k link) (causesHeld m k link) k 0 (added (lookedUp w) k)) (spoiled w)
 
 unfoldable pub openWalk : State → ℕ → Walked
 openWalk m k =
-    let w = visitHeld 16 m k (view m (number k 0) .store + 1) unmet in
+    let w = visitLasting 16 m k (view m (number k 0) .store + 1) unmet in
     pick (brokenOf m) (refusedWalk 1) (pick (leb (m .made) k) (refusedWalk 2) (answerOf w))
 
 -- The sender's view settles, and the message isn't received.

@@ -3,3 +3,4 @@ pub mod Witnesses
 pub mod Variants
 pub mod Wrong
 pub mod Further
+pub mod Checkpoints

@@ -4,17 +4,17 @@ use mathlib.Core.Path.{_≡_}
 use mathlib.Core.Bool.{true, false}
 use mathlib.Core.List.{List, [], _∷_, _++_}
 use Rattle.protocol.specs.Words.{bit}
-use Rattle.protocol.specs.Slots.{number, isUp, view}
+use Rattle.protocol.specs.Slots.{number, isUp, view, ackCopies, uackCopies, isHeld, isLasting}
 use Rattle.protocol.specs.Closed.{closedOf}
 use Rattle.protocol.specs.declared.Setup.{Setup}
 use Rattle.protocol.specs.declared.Step.{Step}
-use Rattle.protocol.specs.declared.Step.the-variants.{Send, Receive, SendRecord, Timeout, TakeRecord, TakeAck, Lose, Crash, Restart}
+use Rattle.protocol.specs.declared.Step.the-variants.{Send, Receive, SendRecord, Timeout, TakeRecord, TakeAck, TakeRepair, SendUpdate, TakeUpdate, Lose, Crash, Restart, Checkpoint}
 use Rattle.protocol.specs.Run.{freshOf, runOf}
 use Rattle.protocol.specs.Drain.{allUp, drainOf}
 use Rattle.reads.specs.Run.{example}
 use Rattle.drains.specs.Drains.{stepsOf}
 use Rattle.guarantees.specs.Acknowledged.{Legal, after, accepted, acknowledged, AckedBy}
-use Rattle.bites.specs.Setting.{M, S, sends, moves, settles}
+use Rattle.bites.specs.Setting.{M, S, sends, moves, keeps, settles}
 
 -- W3 S, receive, both pre-checked, sent and both records lost.
 abbrev pub W3 : List Step
@@ -24,28 +24,45 @@ W3 = S ∷ Receive 0 ∷ sends 0 ++ sends 1 ++ Lose 0 0 0 0 ∷ Lose 0 1 0 1 ∷
 abbrev pub W4 : List Step
 W4 = S ∷ Receive 0 ∷ sends 0 ++ Lose 0 0 0 0 ∷ []
 
--- .., then timeout to 2, which takes it
+-- .., then timeout to 2, which takes it and makes a checkpoint
 abbrev pub movedRecord : List Step
-movedRecord = W4 ++ Timeout 0 2 ∷ SendRecord 0 ∷ TakeRecord 2 0 0 ∷ []
+movedRecord = W4 ++ Timeout 0 2 ∷ SendRecord 0 ∷ keeps 0 0 2
 
--- W5 S, pre-check, send, store 0 takes it, timeout to 2, ack from 0.
+-- W5 S, pre-check, send, store 0 takes it and makes a checkpoint, timeout to 2, ack from 0.
 abbrev pub W5 : List Step
-W5 = S ∷ sends 0 ++ TakeRecord 0 0 0 ∷ Timeout 0 2 ∷ TakeAck 0 0 0 ∷ []
+W5 = S ∷ sends 0 ++ keeps 0 0 0 ++ Timeout 0 2 ∷ TakeAck 0 0 0 ∷ []
 
 -- W12 S, receive, 1 sends to 0 own 1 cause 0.
 abbrev pub W12 : List Step
 W12 = S ∷ Receive 0 ∷ Send 1 0 1 7 1 ∷ []
 
--- .., then the receipt of 0 settles at its home, or moves to store 2; store 1 takes the record of its effect, 1
+-- .., then the receipt of 0 settles at its home, or moves to store 2; store 1 takes the record of its effect, 1, and makes a
+-- checkpoint
 abbrev pub stayedReceipt : List Step
-stayedReceipt = W12 ++ sends 1 ++ settles 1 0 1 1 ++ sends 1 ++ TakeRecord 1 1 0 ∷ []
+stayedReceipt = W12 ++ sends 1 ++ settles 1 0 1 1 ++ sends 1 ++ keeps 1 0 1
 
 abbrev pub movedReceipt : List Step
-movedReceipt = W12 ++ sends 1 ++ moves 1 0 1 1 2 ++ settles 1 0 1 2 ++ sends 1 ++ TakeRecord 1 1 0 ∷ []
+movedReceipt = W12 ++ sends 1 ++ moves 1 0 1 1 2 ++ settles 1 0 1 2 ++ sends 1 ++ keeps 1 0 1
 
--- a crash between record and ack: S, pre-check, send, store 0 takes it and goes down
+-- S, pre-check, send, store 0 takes it
+abbrev pub takenOnly : List Step
+takenOnly = S ∷ sends 0 ++ TakeRecord 0 0 0 ∷ []
+
+-- .., and makes a checkpoint
+abbrev pub recorded : List Step
+recorded = S ∷ sends 0 ++ keeps 0 0 0
+
+-- the sender's record moves to store 2, and store 1 takes the update that says so and makes a checkpoint
+abbrev pub updated : List Step
+updated = S ∷ sends 0 ++ moves 0 0 0 0 2 ++ settles 0 0 0 2 ++ TakeRepair 0 0 ∷ SendUpdate 0 0 ∷ TakeUpdate 1 0 0 ∷ Checkpoint 1 ∷ []
+
+-- a crash between record and checkpoint, and the store is up again
+abbrev pub neverKept : List Step
+neverKept = takenOnly ++ Crash 0 ∷ Restart 0 ∷ []
+
+-- a crash between checkpoint and ack
 abbrev pub downBetween : List Step
-downBetween = S ∷ sends 0 ++ TakeRecord 0 0 0 ∷ Crash 0 ∷ []
+downBetween = recorded ++ Crash 0 ∷ []
 
 -- .., and the ack is taken all the same, or it is lost and the actor times out; then the store is up again
 abbrev pub ackTakenDown : List Step
@@ -93,6 +110,7 @@ pub record Witnesses : Type 0 where
   pub effect : Closes W12 1 1 0
   pub crashThenAck : Closes ackTakenThenUp 0 0 1
   pub crashThenTimeout : Closes ackLostThenUp 0 2 1
+  pub crashThenNothing : Closes neverKept 0 2 1
   -- 1: the ack that W5 takes doesn't count, and one from a store that is down does
   pub leftAck : acknowledged (freshOf M) W5 (number 0 0) ≡ []
   pub down : isUp (after M ackTakenDown) 0 ≡ false
@@ -100,14 +118,23 @@ pub record Witnesses : Type 0 where
   -- 2
   pub fromMoved : Accepts movedRecord (TakeAck 2 0 0) 0 0 2
   pub fromDown : Accepts downBetween (TakeAck 0 0 0) 0 0 0
+  -- .. of a store that is up, and crashes then
+  pub fromUp : Accepts recorded (TakeAck 0 0 0) 0 0 0
+  -- .. an ack and a uack in flight; contents in a checkpointed state that nobody has acknowledged yet
+  pub ackFlies : 1 ≤ ackCopies (after M recorded) 0 (number 0 0)
+  pub uackFlies : 1 ≤ uackCopies (after M updated) 1 (number 0 0)
+  pub lasting : isLasting (after M recorded) 0 (number 0 0) ≡ true
+  -- .. and that they are in the checkpointed state is needed: what the working state alone has, a crash loses
+  pub working : isHeld (after M takenOnly) 0 (number 0 0) ≡ true
+  pub lost : isHeld (after M neverKept) 0 (number 0 0) ≡ false
   -- 1, 3
   pub afterStay : AcceptsEffect stayedReceipt (TakeAck 1 1 0) 1 1 0
   pub afterMove : AcceptsEffect movedReceipt (TakeAck 1 1 0) 1 1 0
   -- 8: document 01's example book, with room for its answers, is not refused
   pub book : runOf example 4 .answer ≡ 0
 
--- The bound of 6 is met, so it can't be lowered: W3 makes one interaction, and its drain takes 18 steps.
+-- The bound of 6 is met, so it can't be lowered: W3 makes one interaction, and its drain takes 22 steps.
 pub record BoundMet : Type 0 where
   pub made : after M W3 .made ≡ 1
-  pub count : drainOf (after M W3) .count ≡ 18
-  pub least : (n : ℕ) → ((u : Setup) → Legal u → (steps : List Step) → allUp (after u steps) ≡ true → drainOf (after u steps) .count ≤ after u steps .made * n) → 18 ≤ n
+  pub count : drainOf (after M W3) .count ≡ 22
+  pub least : (n : ℕ) → ((u : Setup) → Legal u → (steps : List Step) → allUp (after u steps) ≡ true → drainOf (after u steps) .count ≤ after u steps .made * n) → 22 ≤ n

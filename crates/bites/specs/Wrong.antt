@@ -6,8 +6,9 @@ use mathlib.Core.Bool.{true}
 use mathlib.Core.List.{List, [], _∷_, _++_}
 use lib.ListN.{getD}
 use Rattle.protocol.specs.Words.{bit}
-use Rattle.protocol.specs.Slots.{number, view, entry, viewlink}
-use Rattle.protocol.specs.Writes.{withView, withEntry, withViewlink}
+use Rattle.protocol.specs.Slots.{number, shelf, view, entry, lastingViewlink as viewlink}
+use Rattle.protocol.specs.Stores.{relinkedAt}
+use Rattle.protocol.specs.Writes.{withView, withEntry, withShelf}
 use Rattle.protocol.specs.Closed.{closedOf}
 use Rattle.protocol.specs.declared.State.{State}
 use Rattle.protocol.specs.Views.{phased}
@@ -19,14 +20,16 @@ use Rattle.protocol.specs.TakeUack.{finishedEntry, uackTaken}
 use Rattle.protocol.specs.Step.{afterOf}
 use Rattle.protocol.specs.Kinds.{onPreCheck, onTakeRecord, onTakeAck, onTakeRepair, onTakeUack}
 use Rattle.protocol.specs.declared.Step.{Step}
-use Rattle.protocol.specs.declared.Step.the-variants.{Receive, SendRecord, Timeout, TakeRecord, TakeAck, PostCheck, TakeRepair, SendUpdate, TakeUpdate, TakeUack, Lose}
-use Rattle.bites.specs.Setting.{M, S, sends, moves, settles, updates}
+use Rattle.protocol.specs.declared.Step.the-variants.{Receive, SendRecord, Timeout, TakeAck, PostCheck, TakeRepair, SendUpdate, TakeUpdate, TakeUack, Lose, Checkpoint}
+use Rattle.bites.specs.Setting.{M, S, sends, moves, keeps, settles, updates}
 use Rattle.bites.specs.Witnesses.{movedReceipt}
 use Rattle.bites.specs.Variants.{Rules, right, runBy, acceptedBy, AckedIn, CauseLinksBy, ViewLinksBy}
 
 -- 1. Letting a late record overwrite a viewlink that an update wrote first: the viewlink is written, whatever was there.
 unfoldable pub overwritten : State → ℕ → ℕ → ℕ → State
-overwritten m p k r = withViewlink (recordTaken m p k r) p (number k r) (view m (number k r) .viewlink + 1)
+overwritten m p k r =
+    let n = recordTaken m p k r in
+    withShelf n p (relinkedAt (shelf n p) (number k r) (view m (number k r) .viewlink + 1))
 
 abbrev pub overwriting : Rules
 overwriting m s = onTakeRecord s (overwritten m) (afterOf m s)
@@ -46,7 +49,7 @@ finishing m s = onTakeUack s (finishedEarly m) (afterOf m s)
 -- sent on to store 2, and that update is lost.
 abbrev pub replacedDestination : List Step
 replacedDestination =
-    S ∷ Receive 0 ∷ sends 0 ++ moves 0 0 0 0 2 ++ settles 0 0 0 2 ++ TakeRepair 0 0 ∷ SendUpdate 0 0 ∷ TakeUpdate 1 0 0 ∷ sends 1
+    S ∷ Receive 0 ∷ sends 0 ++ moves 0 0 0 0 2 ++ settles 0 0 0 2 ++ TakeRepair 0 0 ∷ SendUpdate 0 0 ∷ TakeUpdate 1 0 0 ∷ Checkpoint 1 ∷ sends 1
     ++ moves 1 0 1 1 2 ++ settles 1 0 1 2 ++ TakeRepair 0 1 ∷ SendUpdate 0 0 ∷ TakeUack 1 0 0 ∷ Lose 2 2 0 0 ∷ updates 0 1 2
 
 -- 3. On the second repair, redirecting one entry and leaving the other.
@@ -81,17 +84,17 @@ accepting m s = onTakeAck s (acceptedLate m) (afterOf m s)
 -- The sender times out from store 0 to store 2, the ack comes from store 0, and the record to store 2 is lost.
 abbrev pub leftStore : List Step
 leftStore =
-    S ∷ Receive 0 ∷ sends 0 ++ TakeRecord 0 0 0 ∷ Timeout 0 2 ∷ SendRecord 0 ∷ TakeAck 0 0 0 ∷ Lose 0 2 0 0 ∷ PostCheck 0 ∷ sends 1
+    S ∷ Receive 0 ∷ sends 0 ++ keeps 0 0 0 ++ Timeout 0 2 ∷ SendRecord 0 ∷ TakeAck 0 0 0 ∷ Lose 0 2 0 0 ∷ PostCheck 0 ∷ sends 1
     ++ settles 1 0 1 1 ++ TakeRepair 0 0 ∷ updates 0 0 1
 
 -- A run by these rules on which 5 fails: interaction 0 is closed and its views were acknowledged by these stores, yet the viewlink
--- beside the receiver's view doesn't name the store that acknowledged the sender's.
+-- beside the receiver's view, 0 for none and p + 1 for store p, doesn't name the store that acknowledged the sender's.
 pub record BreaksViewLinks (rules : Rules) (steps : List Step) (sender receiver link : ℕ) : Type 0 where
   pub closed : closedOf (runBy rules M steps) 0 ≡ true
   pub sent : AckedIn rules M steps (number 0 0) sender
   pub received : AckedIn rules M steps (number 0 1) receiver
-  pub beside : viewlink (runBy rules M steps) receiver (number 0 1) ≡ link + 1
-  pub elsewhere : link ≢ sender
+  pub beside : viewlink (runBy rules M steps) receiver (number 0 1) ≡ link
+  pub elsewhere : link ≢ sender + 1
   -- so guarantee 5 is false of these rules
   pub refuted : ¬ ViewLinksBy rules
 
@@ -111,8 +114,8 @@ pub record Bites : Type 0 where
   pub causeLinks : CauseLinksBy right
   pub viewLinks : ViewLinksBy right
   -- by each wrong rule one of them fails
-  pub overwritten : BreaksViewLinks overwriting lateRecord 2 1 0
-  pub finishedEarly : BreaksViewLinks finishing replacedDestination 2 2 0
-  pub oneRedirected : BreaksViewLinks leaving secondRepair 2 2 0
+  pub overwritten : BreaksViewLinks overwriting lateRecord 2 1 1
+  pub finishedEarly : BreaksViewLinks finishing replacedDestination 2 2 1
+  pub oneRedirected : BreaksViewLinks leaving secondRepair 2 2 1
   pub unchecked : BreaksCauseLinks sendingOnly movedReceipt (TakeAck 1 1 0) 1 2 1
-  pub acceptedLate : BreaksViewLinks accepting leftStore 0 1 2
+  pub acceptedLate : BreaksViewLinks accepting leftStore 0 1 3

@@ -15,7 +15,7 @@ use Rattle.protocol.specs.Words.{pick, bit, all}
 use Rattle.protocol.specs.Broken.{linkFine, linksFine}
 use Rattle.unbroken.proofs.Laws.Every.{all-at}
 use Rattle.unbroken.proofs.Laws.Tests.{and-left, and-right, pick-then, by-test, not-both}
-use Rattle.broken.proofs.Marked.{all-same}
+use Rattle.broken.proofs.Same.{all-same}
 
 some : (j : ℕ) → 0 < 2 ^ j
 some j = pow-le-pow-right {n = 2} (omega arith) {i = 0} {j = j} (omega arith)

@@ -2,7 +2,9 @@ pub mod Causes
 pub mod Full
 pub mod Marked
 pub mod Meet
+pub mod Members
 pub mod Packed
 pub mod Rooms
+pub mod Same
 pub mod Slots
 pub mod Statuses

@@ -1,58 +1,32 @@
 -- The marked form of the queues' clauses is what the definitions say: every view in phases 1 to 4 is exactly once in its own actor's
 -- queue, and no other view stands there. The idea: a bit of the marks is how often its view was met, since none is met twice; and
 -- a view is met in its own actor's queue only. By the lists; assumes nothing.
-use Prim.Native.Nat.{ℕ, zero, suc, _+_, _-_, _≤_, _<_, _/_, _%_, _^_}
+use Prim.Native.Nat.{ℕ, zero, suc, _+_, _-_, _≤_, _<_, _/_}
 use mathlib.Core.Path.{_≡_, refl, sym, ap, ap₂, _∙_}
 use mathlib.Core.Logic.{_≢_}
 use mathlib.Core.Bool.{Bool, true, false, _&&_, _||_, not, false≢true}
 use mathlib.Core.List.{List, [], _∷_}
 use native.Mathlib.Omega.{arith}
-use native.Mathlib.Nat.{div-one, div-eq-of-lt, mul-div-mul-right, mul-mod-left, pow-suc}
 use native.Mathlib.Decide.{decLt}
 use borrow.Author.Tests.{not-true, eqb-true, ltb-true, leb-true, eq-eqb, ne-eqb, lt-ltb}
-use lib.Dec.{ltb, leb, eqb, eqb·zero-suc, eqb·suc-zero, eqb·suc-suc}
-use lib.Bits.{bitOr, or-shr, or-mod}
-use lib.Pow.{pow-lt}
+use lib.Dec.{ltb, leb, eqb}
 use lib.ListN.{length, take, getD, List·getD-eq-default}
 use lib.Seq.{length-take-le, getD-take}
-use Rattle.protocol.specs.Words.{bit, one, times, allFrom, all}
+use Rattle.protocol.specs.Words.{bit, joined, one, times, allFrom, all}
 use Rattle.protocol.specs.Slots.{noView, noQueue, standing}
 use Rattle.protocol.specs.Broken.{linksFine, phaseFine, madeView, waits, waitsAt, queuedOnce, viewFine, standsFine, queueFine}
 use Rattle.protocol.specs.declared.View.{View}
 use Rattle.protocol.specs.declared.Queue.{Queue}
-use Rattle.unbroken.proofs.Laws.Bits.{bit-none}
+use Rattle.unbroken.proofs.Laws.Bits.{bit-none, joined-bit}
 use Rattle.unbroken.proofs.Laws.Every.{all-at, all-each}
 use Rattle.unbroken.proofs.Laws.Tests.{and-left, and-right, and-both, or-else, or-of, pick-then, pick-else, pick-of, by-test, not-both, not-of, not-back}
 use Rattle.unbroken.proofs.Pass.{and-false}
-use Rattle.broken.specs.Marks.{allMet, marksAfter, mark, placeMet, blankBehind, queueMet, queueMarks, queuesMet, marksOf, waitsMet, viewMet}
+use Rattle.broken.proofs.Same.{all-same}
+use Rattle.broken.specs.Marks.{allMet, marksAfter, placeMet, blankBehind, queueMet, queueMarks, queuesMet, marksOf, waitsMet, viewMet}
 
 pub and-true : (t : Bool) → (t && true) ≡ t
 and-true true = refl
 and-true false = refl
-
--- a view is marked exactly if it was before, or is the one that is marked now
-digit-or : (p q : ℕ) → p < 2 → q < 2 → eqb (bitOr p q) 1 ≡ (eqb p 1 || eqb q 1)
-digit-or zero zero h k = refl
-digit-or zero (suc zero) h k = refl
-digit-or (suc zero) zero h k = refl
-digit-or (suc zero) (suc zero) h k = refl
-digit-or (suc (suc p)) q h k = absurd (omega arith)
-digit-or zero (suc (suc q)) h k = absurd (omega arith)
-digit-or (suc zero) (suc (suc q)) h k = absurd (omega arith)
-
-or-bit : (a b j : ℕ) → bit (bitOr a b) j ≡ (bit a j || bit b j)
-or-bit a b j =
-    ap (λ (n : ℕ). eqb (n % 2) 1) (or-shr a b j) ∙ (ap (λ (n : ℕ). eqb n 1) (or-mod (a / 2 ^ j) (b / 2 ^ j) 1) ∙ digit-or (a / 2 ^ j % 2) (b / 2 ^ j % 2) (omega arith) (omega arith))
-
-pow-bit : (v j : ℕ) → bit (2 ^ v) j ≡ eqb v j
-pow-bit zero zero = refl
-pow-bit zero (suc j) = ap (λ (n : ℕ). eqb (n % 2) 1) (div-eq-of-lt (pow-lt {i = 0} {j = suc j} (omega arith))) ∙ sym (eqb·zero-suc j)
-pow-bit (suc v) zero = ap (λ (n : ℕ). eqb (n % 2) 1) (div-one (2 ^ suc v) ∙ pow-suc 2 v) ∙ (ap (λ (n : ℕ). eqb n 1) (mul-mod-left (2 ^ v) 2) ∙ sym (eqb·suc-zero v))
-pow-bit (suc v) (suc j) =
-    ap (λ (n : ℕ). eqb (n % 2) 1) ((λ i. pow-suc 2 v i / pow-suc 2 j i) ∙ mul-div-mul-right (2 ^ v) (2 ^ j) (omega arith)) ∙ (pow-bit v j ∙ sym (eqb·suc-suc v j))
-
-mark-bit : (marks v j : ℕ) → bit (mark marks v) j ≡ (bit marks j || eqb v j)
-mark-bit marks v j = or-bit marks (2 ^ v) j ∙ ap (λ (b : Bool). bit marks j || b) (pow-bit v j)
 
 one-or : (a b : Bool) → (b ≡ true → a ≡ false) → one (a || b) ≡ one a + one b
 one-or true true f = absurd (false≢true (sym (f refl)))
@@ -71,31 +45,31 @@ one-few true e = absurd (omega arith)
 one-few false e = refl
 
 -- a view that is not marked yet counts once more
-mark-one : (marks v w : ℕ) → bit marks v ≡ false → one (bit (mark marks v) w) ≡ one (bit marks w) + one (eqb v w)
-mark-one marks v w f = ap one (mark-bit marks v w) ∙ one-or (bit marks w) (eqb v w) (λ e. ap (λ (k : ℕ). bit marks k) (sym (eqb-true v w e)) ∙ f)
+mark-one : (marks v w : ℕ) → bit marks v ≡ false → one (bit (joined marks v) w) ≡ one (bit marks w) + one (eqb v w)
+mark-one marks v w f = ap one (joined-bit marks v w) ∙ one-or (bit marks w) (eqb v w) (λ e. ap (λ (k : ℕ). bit marks k) (sym (eqb-true v w e)) ∙ f)
 
 -- the views of a list wait at an actor, from place i on
 abbrev waiting : List View → ℕ → ℕ → List ℕ → Bool
 waiting views a i l = allFrom (λ j v. waitsAt a j (getD views v noView)) i l
 
 abbrev met : List View → ℕ → ℕ → ℕ → List ℕ → Bool
-met views a marks i l = allMet (placeMet views a) mark marks i l
+met views a marks i l = allMet (placeMet views a) joined marks i l
 
 met-free : (views : List View) (a marks i v : ℕ) (l : List ℕ) → met views a marks i (v ∷ l) ≡ true → bit marks v ≡ false
 unfolding allMet
 met-free views a marks i v l e =
     not-true (bit marks v)
-    (and-left (not (bit marks v)) (waitsAt a i (getD views v noView)) (and-left (placeMet views a marks i v) (met views a (mark marks v) (suc i) l) e))
+    (and-left (not (bit marks v)) (waitsAt a i (getD views v noView)) (and-left (placeMet views a marks i v) (met views a (joined marks v) (suc i) l) e))
 
-met-rest : (views : List View) (a marks i v : ℕ) (l : List ℕ) → met views a marks i (v ∷ l) ≡ true → met views a (mark marks v) (suc i) l ≡ true
+met-rest : (views : List View) (a marks i v : ℕ) (l : List ℕ) → met views a marks i (v ∷ l) ≡ true → met views a (joined marks v) (suc i) l ≡ true
 unfolding allMet
-met-rest views a marks i v l e = and-right (placeMet views a marks i v) (met views a (mark marks v) (suc i) l) e
+met-rest views a marks i v l e = and-right (placeMet views a marks i v) (met views a (joined marks v) (suc i) l) e
 
-met-bits : (views : List View) (a marks i : ℕ) (l : List ℕ) → met views a marks i l ≡ true → (w : ℕ) → one (bit (marksAfter mark marks l) w) ≡ one (bit marks w) + times w l
+met-bits : (views : List View) (a marks i : ℕ) (l : List ℕ) → met views a marks i l ≡ true → (w : ℕ) → one (bit (marksAfter joined marks l) w) ≡ one (bit marks w) + times w l
 unfolding marksAfter times
 met-bits views a marks i [] e w = omega arith
 met-bits views a marks i (v ∷ l) e w =
-    let r = met-bits views a (mark marks v) (suc i) l (met-rest views a marks i v l e) w in
+    let r = met-bits views a (joined marks v) (suc i) l (met-rest views a marks i v l e) w in
     let k = mark-one marks v w (met-free views a marks i v l e) in
     omega arith
 
@@ -104,8 +78,8 @@ unfolding allMet allFrom
 met-waiting views a marks i [] e = refl
 met-waiting views a marks i (v ∷ l) e =
     and-both (waitsAt a i (getD views v noView)) (waiting views a (suc i) l)
-    (and-right (not (bit marks v)) (waitsAt a i (getD views v noView)) (and-left (placeMet views a marks i v) (met views a (mark marks v) (suc i) l) e))
-    (met-waiting views a (mark marks v) (suc i) l (met-rest views a marks i v l e))
+    (and-right (not (bit marks v)) (waitsAt a i (getD views v noView)) (and-left (placeMet views a marks i v) (met views a (joined marks v) (suc i) l) e))
+    (met-waiting views a (joined marks v) (suc i) l (met-rest views a marks i v l e))
 
 waiting-met : (views : List View) (a marks i : ℕ) (l : List ℕ) → waiting views a i l ≡ true → ((w : ℕ) → one (bit marks w) + times w l ≤ 1) → met views a marks i l ≡ true
 unfolding allMet allFrom times
@@ -114,9 +88,9 @@ waiting-met views a marks i (v ∷ l) e few =
     let self = ap one (eq-eqb v v refl) in
     let once = few v in
     let free = one-few (bit marks v) (omega arith) in
-    and-both (placeMet views a marks i v) (met views a (mark marks v) (suc i) l)
+    and-both (placeMet views a marks i v) (met views a (joined marks v) (suc i) l)
     (and-both (not (bit marks v)) (waitsAt a i (getD views v noView)) (not-of (bit marks v) free) (and-left (waitsAt a i (getD views v noView)) (waiting views a (suc i) l) e))
-    (waiting-met views a (mark marks v) (suc i) l (and-right (waitsAt a i (getD views v noView)) (waiting views a (suc i) l) e) (λ w. let k = mark-one marks v w free in let q = few w in omega arith))
+    (waiting-met views a (joined marks v) (suc i) l (and-right (waitsAt a i (getD views v noView)) (waiting views a (suc i) l) e) (λ w. let k = mark-one marks v w free in let q = few w in omega arith))
 
 -- a queue whose places are fine is blank behind its end, and its views wait
 abbrev behind : ℕ → ℕ → ℕ → Bool
@@ -282,12 +256,6 @@ once actors views queues e f v =
         let n = eqb-true (ownTimes views queues v) 1 (or-else (not (waits (getD views v noView .phase))) (eqb (ownTimes views queues v) 1) (f v q) (not-back (waits (getD views v noView .phase)) h)) in
         omega arith
     standing-once (no q) h = absurd (false≢true (sym (ap (λ (w : View). waits (w .phase)) (List·getD-eq-default views noView {n = v} (omega arith))) ∙ h))
-
-pub all-same : {A : Type 0} (p q : ℕ → A → Bool) (l : List A) (d : A) → ((j : ℕ) → j < length l → p j (getD l j d) ≡ q j (getD l j d)) → all p l ≡ all q l
-all-same p q l d f =
-    by-test (all p l)
-    (λ e. e ∙ sym (all-each q l d (λ j h. sym (f j h) ∙ all-at p l d e j h)))
-    (λ e. e ∙ sym (by-test (all q l) (λ g. not-both (all p l) (all-each p l d (λ j h. f j h ∙ all-at q l d g j h)) e) (λ g. g)))
 
 -- the law: every view in phases 1 to 4 is exactly once in its own actor's queue, and no other view stands there. `part` is what else is
 -- tested of a view beside it.

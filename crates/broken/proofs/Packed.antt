@@ -1,36 +1,36 @@
--- The number of contents is 0 exactly where nothing is held and all is blank. By arithmetic; assumes nothing.
-use mathlib.Core.Path.{_≡_, refl, sym, ap, _∙_}
-use mathlib.Core.Logic.{_≢_}
+-- Contents have the number that is due exactly if they are fine, since an asserter is a byte and a set of causes two. By arithmetic;
+-- assumes nothing.
+use Prim.Native.Nat.{ℕ, _<_}
+use mathlib.Core.Path.{_≡_, sym, ap, _∙_}
 use mathlib.Core.Bool.{Bool, true, false, _&&_}
 use native.Mathlib.Omega.{arith}
-use borrow.Author.Tests.{eqb-true, eq-eqb}
-use lib.Dec.{eqb}
-use Rattle.protocol.specs.Words.{pick, one}
+use borrow.Author.Tests.{eqb-true, eq-eqb, ne-eqb}
+use lib.Dec.{leb, eqb}
+use Rattle.protocol.specs.Words.{pick}
 use Rattle.protocol.specs.Broken.{blankContents}
+use Rattle.protocol.specs.declared.View.{View}
 use Rattle.protocol.specs.declared.Contents.{Contents}
-use Rattle.unbroken.proofs.Laws.Tests.{and-left, and-right, and-both, by-test}
-use Rattle.broken.specs.Packed.{packed}
+use Rattle.unbroken.proofs.Laws.Says.{eq-says, and-says}
+use Rattle.unbroken.proofs.Laws.Tests.{by-test}
+use Rattle.broken.specs.Packed.{packed, due, recorded}
+use Rattle.broken.proofs.Same.{both-ways}
 
-one-held : (b : Bool) → one b ≡ 0 → b ≡ false
-one-held true e = absurd (omega arith)
-one-held false e = refl
+-- three fields at once
+fields : (a k w a′ k′ w′ : ℕ) → a < 256 → k < 65536 → a′ < 256 → k′ < 65536 → eqb (packed a k w) (packed a′ k′ w′) ≡ (eqb a a′ && eqb k k′ && eqb w w′)
+fields a k w a′ k′ w′ ha hk ha′ hk′ =
+    let says = and-says (and-says (eq-says a a′) (eq-says k k′)) (eq-says w w′) in
+    both-ways (eqb (packed a k w) (packed a′ k′ w′)) (eqb a a′ && eqb k k′ && eqb w w′)
+    (λ e. let x = eqb-true (packed a k w) (packed a′ k′ w′) e in says .told ((omega arith, omega arith), omega arith))
+    (λ e. let x = says .tells e in let y = x .0 .0 in let z = x .0 .1 in let u = x .1 in eq-eqb (packed a k w) (packed a′ k′ w′) (omega arith))
 
-pub packed-none : (c : Contents) (same : Bool) → packed c ≡ 0 → true ≡ pick (c .held) same (blankContents c)
-packed-none c same e =
-    let h : one (c .held) ≡ 0 = omega arith in
-    let a : c .asserter ≡ 0 = omega arith in
-    let k : c .causes ≡ 0 = omega arith in
-    let w : c .word ≡ 0 = omega arith in
-    sym (ap (λ (b : Bool). pick b same (blankContents c)) (one-held (c .held) h)
-    ∙ and-both (eqb (c .asserter) 0 && eqb (c .causes) 0) (eqb (c .word) 0) (and-both (eqb (c .asserter) 0) (eqb (c .causes) 0) (eq-eqb (c .asserter) 0 a) (eq-eqb (c .causes) 0 k)) (eq-eqb (c .word) 0 w))
-
-pub packed-some : (c : Contents) (same : Bool) → packed c ≢ 0 → c .held ≡ false → false ≡ pick (c .held) same (blankContents c)
-packed-some c same e h =
-    sym (ap (λ (b : Bool). pick b same (blankContents c)) h ∙ by-test (blankContents c)
-    (λ t. let fields = and-left (eqb (c .asserter) 0 && eqb (c .causes) 0) (eqb (c .word) 0) t in
-    let a = eqb-true (c .asserter) 0 (and-left (eqb (c .asserter) 0) (eqb (c .causes) 0) fields) in
-    let k = eqb-true (c .causes) 0 (and-right (eqb (c .asserter) 0) (eqb (c .causes) 0) fields) in
-    let w = eqb-true (c .word) 0 (and-right (eqb (c .asserter) 0 && eqb (c .causes) 0) (eqb (c .word) 0) t) in
-    let n = ap one h in
-    absurd (e (omega arith)))
-    (λ t. t))
+pub packed-fine : (has : Bool) (w : View) (c : Contents) → c .asserter < 256 → c .causes < 65536 → w .actor < 256 → w .causes < 65536
+    → eqb (packed (c .asserter) (c .causes) (c .word)) (due has w) ≡ pick has (recorded w c) (blankContents c)
+packed-fine false w c ha hk ha′ hk′ = fields (c .asserter) (c .causes) (c .word) 0 0 0 ha hk (omega arith) (omega arith)
+packed-fine true w c ha hk ha′ hk′ =
+    by-test (leb 2 (w .phase))
+    (λ t. ap (λ (b : Bool). eqb (packed (c .asserter) (c .causes) (c .word)) (pick b (packed (w .actor) (w .causes) (w .word)) 256)) t
+    ∙ (fields (c .asserter) (c .causes) (c .word) (w .actor) (w .causes) (w .word) ha hk ha′ hk′
+    ∙ sym (ap (λ (b : Bool). b && eqb (c .asserter) (w .actor) && eqb (c .causes) (w .causes) && eqb (c .word) (w .word)) t)))
+    (λ t. ap (λ (b : Bool). eqb (packed (c .asserter) (c .causes) (c .word)) (pick b (packed (w .actor) (w .causes) (w .word)) 256)) t
+    ∙ (ne-eqb (packed (c .asserter) (c .causes) (c .word)) 256 (λ e. omega arith)
+    ∙ sym (ap (λ (b : Bool). b && eqb (c .asserter) (w .actor) && eqb (c .causes) (w .causes) && eqb (c .word) (w .word)) t)))

@@ -1,24 +1,26 @@
 -- A place is within its view's room exactly if its copies, or its viewlink, are fine; the places of eight stores are those of all. By cases; assumes nothing.
 use Prim.Native.Nat.{ℕ, zero, suc, _+_, _*_, _/_, _%_, _<_}
 use mathlib.Core.Path.{_≡_, refl, sym, ap, ap₂, _∙_}
-use mathlib.Core.Bool.{Bool, true, false, _&&_, _||_, not}
+use mathlib.Core.Bool.{Bool, true, false, _&&_, _||_}
 use mathlib.Core.List.{List}
 use native.Mathlib.Omega.{arith}
-use borrow.Author.Tests.{lt-leb, le-leb, eq-eqb, eqb-true}
+use borrow.Author.Tests.{lt-leb, le-leb, eqb-true}
 use lib.Dec.{ltb, leb, eqb, eqb·suc-zero}
 use lib.ListN.{length, getD}
 use Rattle.protocol.specs.Words.{pick, all, allBelow, table}
-use Rattle.protocol.specs.Broken.{copiesFine, viewlinkFine, viewlinksFine, storeFine}
+use Rattle.protocol.specs.Slots.{noStore}
+use Rattle.protocol.specs.Broken.{copiesFine, viewlinkFine, viewlinksFine, notesFine, blankStore, storeFine}
 use Rattle.protocol.specs.declared.Store.{Store}
+use Rattle.protocol.specs.declared.View.{View}
+use Rattle.protocol.specs.declared.Entry.{Entry}
 use Rattle.unbroken.proofs.Laws.Every.{table-at}
-use Rattle.unbroken.proofs.Laws.Tests.{by-test}
+use Rattle.unbroken.proofs.Laws.Tests.{or-none}
 use Rattle.unbroken.proofs.Pass.{and-false, Tallied}
-use Rattle.broken.specs.Rooms.{linkRoom, withinRoom}
-use Rattle.broken.proofs.Marked.{and-true, all-same}
-
-or-false : (t : Bool) → (t || false) ≡ t
-or-false true = refl
-or-false false = refl
+use Rattle.broken.specs.Rooms.{linkRoom, rowsWithin, storeWithin, withinRoom}
+use Rattle.broken.specs.Sets.{setOf, isReady, isEntered}
+use Rattle.broken.proofs.Marked.{and-true}
+use Rattle.broken.proofs.Same.{all-same, all-below, below-and}
+use Rattle.broken.proofs.Members.{notes-same}
 
 -- no more than nothing is nothing
 none : (n : ℕ) → leb n 0 ≡ eqb n 0
@@ -50,50 +52,47 @@ pub rooms-both : (stores : ℕ) (may : ℕ → Bool) (rooms : List ℕ) → room
 rooms-both stores may rooms e k l f g = ap₂ _&&_ (f ∙ rooms-same stores may rooms k e) (g ∙ rooms-same stores may rooms l e)
 
 -- .. and so with the viewlinks of a store
-link-same : (s m : Bool) (stores link : ℕ) → (eqb link 0 || (leb link stores && (s && m))) ≡ pick s (leb link (pick m stores 0)) (eqb link 0)
-link-same true true stores zero = sym (le-leb 0 stores (omega arith))
-link-same true true stores (suc link) = ap (λ (t : Bool). t || (leb (suc link) stores && true)) (eqb·suc-zero link) ∙ and-true (leb (suc link) stores)
-link-same true false stores link = ap (λ (t : Bool). eqb link 0 || t) (and-false (leb link stores)) ∙ (or-false (eqb link 0) ∙ sym (none link))
-link-same false m stores link = ap (λ (t : Bool). eqb link 0 || t) (and-false (leb link stores)) ∙ or-false (eqb link 0)
+link-same : (s m : Bool) (stores link : ℕ) → leb link (pick s (pick m stores 0) 0) ≡ (eqb link 0 || (leb link stores && (s && m)))
+link-same true true stores zero = le-leb 0 stores (omega arith)
+link-same true true stores (suc link) = sym (ap (λ (t : Bool). t || (leb (suc link) stores && true)) (eqb·suc-zero link) ∙ and-true (leb (suc link) stores))
+link-same true false stores link = none link ∙ sym (ap (λ (t : Bool). eqb link 0 || t) (and-false (leb link stores)) ∙ or-none (eqb link 0))
+link-same false m stores link = none link ∙ sym (ap (λ (t : Bool). eqb link 0 || t) (and-false (leb link stores)) ∙ or-none (eqb link 0))
+
+-- two rows that have their places are tested together
+together : (x y w a b : Bool) → (x ≡ true → y ≡ true → w ≡ (a && b)) → ((x && y) && w) ≡ ((x && a) && (y && b))
+together true true w a b f = f refl refl
+together true false w a b f = sym (and-false a)
+together false y w a b f = refl
 
 -- the rooms are of the views that are made
-links-there : (stores made p : ℕ) (rooms l : List ℕ) → rooms ≡ table (linkRoom stores made) 32 → length l ≡ 32 → ltb p stores ≡ true → all (λ v link. leb link (getD rooms v 0)) l ≡ viewlinksFine stores made p l
-unfolding viewlinksFine
-links-there stores made p rooms l e long there =
-    all-same (λ v link. leb link (getD rooms v 0)) (viewlinkFine stores made p) l 0 (λ v h. ap (λ (k : ℕ). leb (getD l v 0) k) (ap (λ (r : List ℕ). getD r v 0) e ∙ table-at (linkRoom stores made) 32 0 v (omega arith))
-    ∙ sym (link-same (ltb p stores) (ltb v (made * 2)) stores (getD l v 0) ∙ ap (λ (t : Bool). pick t (leb (getD l v 0) (linkRoom stores made v)) (eqb (getD l v 0) 0)) there))
-    ∙ sym (ap (λ (t : Bool). t && all (viewlinkFine stores made p) l) (eq-eqb (length l) 32 long))
+module _ (stores made p : ℕ) (rooms : List ℕ) (e : rooms ≡ table (linkRoom stores made) 32) where
+  abbrev within : List ℕ → ℕ → Bool
+  within l v = leb (getD l v 0) (pick (ltb p stores) (getD rooms v 0) 0)
 
-links-away : (stores made p : ℕ) (l : List ℕ) → length l ≡ 32 → ltb p stores ≡ false → all (λ v link. eqb link 0) l ≡ viewlinksFine stores made p l
-unfolding viewlinksFine
-links-away stores made p l long away =
-    all-same (λ v link. eqb link 0) (viewlinkFine stores made p) l 0 (λ v h. sym (link-same (ltb p stores) (ltb v (made * 2)) stores (getD l v 0) ∙ ap (λ (t : Bool). pick t (leb (getD l v 0) (linkRoom stores made v)) (eqb (getD l v 0) 0)) away))
-    ∙ sym (ap (λ (t : Bool). t && all (viewlinkFine stores made p) l) (eq-eqb (length l) 32 long))
+  row-links : (l : List ℕ) → length l ≡ 32 → allBelow 32 (within l) ≡ all (viewlinkFine stores made p) l
+  row-links l long =
+      all-below 32 (viewlinkFine stores made p) l 0 long (within l) (λ v h. ap (λ (k : ℕ). leb (getD l v 0) (pick (ltb p stores) k 0)) (ap (λ (r : List ℕ). getD r v 0) e ∙ table-at (linkRoom stores made) 32 0 v h)
+      ∙ link-same (ltb p stores) (ltb v (made * 2)) stores (getD l v 0))
 
--- a store that is there has links within the rooms; one that isn't is down and has none
-abbrev links : ℕ → ℕ → List ℕ → Store → Bool
-links stores p rooms s = pick (ltb p stores) (all (λ v link. leb link (getD rooms v 0)) (s .viewlinks)) (not (s .up) && all (λ v link. eqb link 0) (s .viewlinks))
+  rows-links : (links kept : List ℕ) → rowsWithin stores rooms p links kept ≡ (viewlinksFine stores made p links && viewlinksFine stores made p kept)
+  unfolding viewlinksFine
+  rows-links links kept =
+      together (eqb (length links) 32) (eqb (length kept) 32) (allBelow 32 (λ v. within links v && within kept v)) (all (viewlinkFine stores made p) links) (all (viewlinkFine stores made p) kept)
+      (λ x y. below-and 32 (within links) (within kept) ∙ ap₂ _&&_ (row-links links (eqb-true (length links) 32 x)) (row-links kept (eqb-true (length kept) 32 y)))
 
-store-long : (stores made p : ℕ) (s : Store) (rooms : List ℕ) → rooms ≡ table (linkRoom stores made) 32 → length (s .viewlinks) ≡ 32 → links stores p rooms s ≡ storeFine stores made p s
-unfolding storeFine
-store-long stores made p s rooms e long =
-    by-test (ltb p stores)
-    (λ t. ap (λ (b : Bool). pick b (all (λ v link. leb link (getD rooms v 0)) (s .viewlinks)) (not (s .up) && all (λ v link. eqb link 0) (s .viewlinks))) t
-    ∙ (links-there stores made p rooms (s .viewlinks) e long t ∙ sym (ap (λ (b : Bool). (b || not (s .up)) && viewlinksFine stores made p (s .viewlinks)) t)))
-    (λ t. ap (λ (b : Bool). pick b (all (λ v link. leb link (getD rooms v 0)) (s .viewlinks)) (not (s .up) && all (λ v link. eqb link 0) (s .viewlinks))) t
-    ∙ (ap (λ (b : Bool). not (s .up) && b) (links-away stores made p (s .viewlinks) long t) ∙ sym (ap (λ (b : Bool). (b || not (s .up)) && viewlinksFine stores made p (s .viewlinks)) t)))
+and-more : (a b c : Bool) → (a && (b && c)) ≡ ((a && b) && c)
+and-more true b c = refl
+and-more false b c = refl
 
-pub store-same : (stores made p : ℕ) (s : Store) (rooms : List ℕ) {r : Bool} → rooms ≡ table (linkRoom stores made) 32 → r ≡ (eqb (length (s .viewlinks)) 32 && links stores p rooms s) → storeFine stores made p s ≡ r
-unfolding storeFine viewlinksFine
-store-same stores made p s rooms e h =
-    sym (h ∙ by-test (eqb (length (s .viewlinks)) 32)
-    (λ t. ap (λ (b : Bool). b && links stores p rooms s) t ∙ store-long stores made p s rooms e (eqb-true (length (s .viewlinks)) 32 t))
-    (λ t. ap (λ (b : Bool). b && links stores p rooms s) t ∙ sym (ap (λ (b : Bool). (ltb p stores || not (s .up)) && (b && all (viewlinkFine stores made p) (s .viewlinks))) t ∙ and-false (ltb p stores || not (s .up)))))
-
-pub below-same : (n : ℕ) (p q : ℕ → Bool) → ((v : ℕ) → v < n → p v ≡ q v) → allBelow n p ≡ allBelow n q
-unfolding allBelow
-below-same zero p q f = refl
-below-same (suc n) p q f = ap₂ _&&_ (below-same n p q (λ v h. f v (omega arith))) (f n (omega arith))
+-- a store whose notes are of views that may have them, and whose viewlinks are within the rooms
+module _ (stores made : ℕ) (views : List View) (entries : List Entry) (rooms : List ℕ) (acked uacked : ℕ) where
+  pub stores-same : rooms ≡ table (linkRoom stores made) 32 → acked ≡ setOf (isReady views) 32 → uacked ≡ setOf (isEntered entries) 32
+      → (l : List Store) → all (storeWithin stores rooms acked uacked) l ≡ all (storeFine stores made views entries) l
+  unfolding storeFine
+  stores-same e f g l =
+      all-same (storeWithin stores rooms acked uacked) (storeFine stores made views entries) l noStore (λ p h. let s = getD l p noStore in
+      ap₂ _&&_ (ap₂ _&&_ (ap (λ (t : Bool). (ltb p stores || blankStore s) && t) (notes-same (isReady views) acked (s .acksowed) f)) (notes-same (isEntered entries) uacked (s .uacksowed) g))
+      (rows-links stores made p rooms e (s .viewlinks) (s .keptlinks)) ∙ and-more ((ltb p stores || blankStore s) && notesFine (isReady views) (s .acksowed) && notesFine (isEntered entries) (s .uacksowed)) (viewlinksFine stores made p (s .viewlinks)) (viewlinksFine stores made p (s .keptlinks)))
 
 -- the test of a row is that of its places
 pub row-same : (stores p v : ℕ) (rooms : List ℕ) (n : ℕ) → v < 32 → withinRoom stores rooms (p * 32 + v) n ≡ leb n (pick (ltb p stores) (getD rooms v 0) 0)
@@ -101,10 +100,6 @@ row-same stores p v rooms n h =
     let q : (p * 32 + v) / 32 ≡ p = omega arith in
     let r : (p * 32 + v) % 32 ≡ v = omega arith in
     ap₂ (λ a b. leb n (pick (ltb a stores) (getD rooms b 0) 0)) q r
-
-and-more : (a b c : Bool) → (a && (b && c)) ≡ ((a && b) && c)
-and-more true b c = refl
-and-more false b c = refl
 
 -- four tests, joined two by two
 pub four : (a b c d : Bool) {j k r : Bool} → r ≡ (j && k) → j ≡ (a && b) → k ≡ (c && d) → r ≡ (a && b && c && d)

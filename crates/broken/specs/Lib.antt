@@ -1,3 +1,4 @@
 pub mod Marks
 pub mod Packed
 pub mod Rooms
+pub mod Sets

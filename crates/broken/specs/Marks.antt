@@ -1,12 +1,11 @@
 -- The marked form of the queues' clauses, which the code computes: the queues are gone over once, and the views met are marked in one
 -- word, a bit each. No reader has to believe it: `marked-same` says that it is what `queuedOnce` and `queueFine` say.
-use Prim.Native.Nat.{ℕ, suc, _-_, _/_, _^_}
+use Prim.Native.Nat.{ℕ, suc, _-_, _/_}
 use mathlib.Core.Bool.{Bool, true, _&&_, _||_, not}
 use mathlib.Core.List.{List, [], _∷_}
-use lib.Bits.{bitOr}
 use lib.Dec.{ltb, leb, eqb}
 use lib.ListN.{length, getD}
-use Rattle.protocol.specs.Words.{bit, all}
+use Rattle.protocol.specs.Words.{bit, joined, all}
 use Rattle.protocol.specs.Slots.{noView, standing}
 use Rattle.protocol.specs.Broken.{linksFine, phaseFine, madeView, waits, waitsAt}
 use Rattle.protocol.specs.declared.View.{View}
@@ -22,9 +21,6 @@ unfoldable pub marksAfter : {A : Type 0} → (ℕ → A → ℕ) → ℕ → Lis
 marksAfter next marks [] = marks
 marksAfter next marks (x ∷ xs) = marksAfter next (next marks x) xs
 
-abbrev pub mark : ℕ → ℕ → ℕ
-mark marks v = bitOr marks (2 ^ v)
-
 -- the view at place i of an actor's queue was not met before, and waits there
 abbrev pub placeMet : List View → ℕ → ℕ → ℕ → ℕ → Bool
 placeMet views a marks i v = not (bit marks v) && waitsAt a i (getD views v noView)
@@ -35,10 +31,10 @@ blankBehind actors a q = (ltb a actors || eqb (q .len) 0) && all (λ i v. ltb i 
 
 unfoldable pub queueMet : ℕ → List View → ℕ → ℕ → Queue → Bool
 queueMet actors views marks a q =
-    eqb (length (q .views)) 16 && leb (q .len) 16 && blankBehind actors a q && allMet (placeMet views a) mark marks 0 (standing q)
+    eqb (length (q .views)) 16 && leb (q .len) 16 && blankBehind actors a q && allMet (placeMet views a) joined marks 0 (standing q)
 
 unfoldable pub queueMarks : ℕ → Queue → ℕ
-queueMarks marks q = marksAfter mark marks (standing q)
+queueMarks marks q = marksAfter joined marks (standing q)
 
 abbrev pub queuesMet : ℕ → List View → List Queue → Bool
 queuesMet actors views queues = allMet (queueMet actors views) queueMarks 0 0 queues

@@ -4,6 +4,7 @@ use super::flight;
 use super::fresh::legal;
 use super::held;
 use super::queues;
+use super::sets;
 use super::views;
 use protocol::State;
 ghost use mathlib.Core.Bool.{_&&_};
@@ -71,9 +72,13 @@ fn places_fine(m: State) -> bool
         recorded,
         flight::updates_fine(m.stores, entries, updates, uacks),
     );
-    let filled = both(updated, held::all_contents_fine(m.stores, vs, contents));
-    let linked = both(filled, held::held_links_fine(contents, vs, links));
-    both(linked, held::stores_fine(m.stores, m.made, shelves))
+    let had = sets::had(shelves);
+    let filled = both(updated, held::all_contents_fine(vs, had, contents));
+    let linked = both(filled, held::held_links_fine(had, vs, links));
+    both(
+        linked,
+        held::stores_fine(m.stores, m.made, vs, entries, shelves),
+    )
 }
 
 fn whole(m: State) -> bool

@@ -76,7 +76,7 @@ pub(crate) fn repairs_fine(stores: u8, views: [View; 32], repairs: [Repair; 32])
 }
 
 // The coordinator has something for the view.
-fn has_entry(e: Entry) -> bool
+pub(crate) fn has_entry(e: Entry) -> bool
     ensures { λ r. ⌜ r ≡ leb 1 (statusNumber (e .status)) ⌝ }
 {
     let status = e.status;

@@ -16,7 +16,8 @@ ghost use Prim.Native.Nat.{_≤_};
 ghost use lib.Dec.{leb, ltb};
 ghost use Rattle.protocol.specs.Words.{pick, table};
 ghost use Rattle.protocol.specs.Slots.{noMessage, noRepair, noEntry, noContents};
-ghost use Rattle.protocol.specs.Setup.{storesIn, legalActor, legalActors, legal, blankQueue, freshStore, ofActors, freshWith, emptyMachine};
+ghost use Rattle.protocol.specs.Stores.{freshStore};
+ghost use Rattle.protocol.specs.Setup.{storesIn, legalActor, legalActors, legal, blankQueue, ofActors, freshWith, emptyMachine};
 
 // How many stores a list has.
 fn stores_in(list: u8) -> u8
@@ -115,13 +116,18 @@ fn rows(actors: u8, l: [u8; 8]) -> [u8; 8]
     kept
 }
 
-// Nothing held.
+// Nothing held, nothing owed.
 fn fresh_store(up: bool) -> Store
     ensures { λ r. ⌜ r ≡ freshStore up ⌝ }
 {
     Store {
         up: up,
+        held: 0,
+        kept: 0,
+        acksowed: 0,
+        uacksowed: 0,
         viewlinks: [0; 32],
+        keptlinks: [0; 32],
     }
 }
 
@@ -183,7 +189,6 @@ fn no_contents() -> Contents
     ensures { λ r. ⌜ r ≡ noContents ⌝ }
 {
     Contents {
-        held: false,
         asserter: 0,
         causes: 0,
         word: 0,

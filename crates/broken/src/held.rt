@@ -1,73 +1,66 @@
-// The stores that are not broken and what they hold: contents, their cause links, and viewlinks.
+// The stores that are not broken and what they hold: contents, their cause links, notes and viewlinks.
 
 use super::broken::both;
+use super::sets::entered;
+use super::sets::is_in;
+use super::sets::notes_fine;
+use super::sets::ready;
 use protocol::Contents;
+use protocol::Entry;
 use protocol::Links;
 use protocol::Store;
 use protocol::View;
 ghost use mathlib.Core.Path.{_≡_};
-ghost use mathlib.Core.Bool.{_&&_, not};
+ghost use mathlib.Core.Bool.{_&&_, _||_};
 ghost use Prim.Native.Nat.{_*_};
 ghost use lib.Dec.{eqb, leb, ltb};
-ghost use lib.ListN.{length, getD};
-ghost use Rattle.protocol.specs.Words.{pick, all, table};
-ghost use Rattle.protocol.specs.Broken.{sameContents, blankContents, contentsFine, sameLinks, heldLinksFine, storeFine};
-ghost use Rattle.broken.specs.Packed.{packed};
-ghost use Rattle.broken.specs.Rooms.{linkRoom};
+ghost use lib.ListN.{getD, replicate};
+ghost use Rattle.protocol.specs.Words.{pick, all, allBelow, table};
+ghost use Rattle.protocol.specs.Broken.{blankContents, sameLinks, blankStore, storeFine};
+ghost use Rattle.broken.specs.Packed.{packed, due, recorded};
+ghost use Rattle.broken.specs.Rooms.{linkRoom, rowsWithin, storeWithin};
+ghost use Rattle.broken.specs.Sets.{contentsIn, linksDue, linksIn};
 
-// Contents are those of the view's record, at a store that is there.
-fn same_contents(stores: u8, w: View, at: usize, c: Contents) -> bool
-    ensures { λ r. ⌜ r ≡ sameContents stores w at c ⌝ }
+// The fields of contents in one number, which is compared at once.
+fn packed(asserter: u8, causes: u16, word: u32) -> u64
+    ensures { λ r. ⌜ r ≡ packed asserter causes word ⌝ }
 {
-    if stores as usize <= at / 32 {
-        return false;
+    (asserter as u64) + (causes as u64) * 65536 + (word as u64) * 4294967296
+}
+
+// The number that a store must have of a view: 0 where it has no contents, and one that no contents have where it may have none.
+fn due(has: bool, w: View) -> u64
+    ensures { λ r. ⌜ r ≡ due has w ⌝ }
+{
+    if !has {
+        return 0;
     }
     if w.phase < 2 {
-        return false;
+        return 256;
     }
-    if c.asserter != w.actor {
-        return false;
-    }
-    if c.causes != w.causes {
-        return false;
-    }
-    c.word == w.word
+    packed(w.actor, w.causes, w.word)
 }
 
-// The fields of contents in one number, which is read and compared at once: 0 where nothing is held and all is blank.
-fn packed(c: Contents) -> u64
-    ensures { λ r. ⌜ r ≡ packed c ⌝ }
+fn contents_fine(has: bool, w: View, c: Contents) -> bool
+    ensures { λ r. ⌜ r ≡ pick has (recorded w c) (blankContents c) ⌝ }
 {
-    let fields = (c.asserter as u64) * 256
-        + (c.causes as u64) * 65536
-        + (c.word as u64) * 4294967296;
-    if c.held {
-        return fields + 1;
-    }
-    fields
+    packed(c.asserter, c.causes, c.word) == due(has, w)
 }
 
-fn contents_fine(stores: u8, w: View, at: usize, c: Contents) -> bool
-    ensures { λ r. ⌜ r ≡ pick (c .held) (sameContents stores w at c) (blankContents c) ⌝ }
-{
-    // Most places are blank.
-    if packed(c) == 0 {
-        return true;
-    }
-    if c.held {
-        return same_contents(stores, w, at, c);
-    }
-    false
-}
-
-pub(crate) fn all_contents_fine(stores: u8, views: [View; 32], contents: [Contents; 256]) -> bool
-    ensures { λ r. ⌜ r ≡ all (contentsFine stores views) contents ⌝ }
+// That a store which is not there has none is asked of the stores.
+pub(crate) fn all_contents_fine(
+    views: [View; 32],
+    sets: [u32; 8],
+    contents: [Contents; 256],
+) -> bool
+    ensures { λ r. ⌜ r ≡ all (contentsIn sets views) contents ⌝ }
 {
     let mut at: usize = 0;
     while at < 256 {
         let w = views[at % 32];
         let c = contents[at];
-        let fine = contents_fine(stores, w, at, c);
+        let has = is_in(sets[at / 32], at % 32);
+        let fine = contents_fine(has, w, c);
         if !fine {
             return false;
         }
@@ -102,30 +95,32 @@ pub(crate) fn blank_links(links: [u8; 16]) -> bool
 }
 
 // The links of a sender's contents are its record's, and blank where no contents are.
-fn sender_links_fine(held: bool, l: Links, w: View) -> bool
-    ensures { λ r. ⌜ r ≡ (eqb (length (l .to)) 16 && pick held (sameLinks (l .to) (w .links)) (all (λ j link. eqb link 0) (l .to))) ⌝ }
+fn due_links(has: bool, w: View) -> [u8; 16]
+    ensures { λ r. ⌜ r ≡ pick has (w .links) (replicate 16 0) ⌝ }
 {
-    let to = l.to;
-    if held {
-        let links = w.links;
-        return same_links(to, links);
+    if has {
+        return w.links;
     }
-    blank_links(to)
+    [0; 16]
 }
 
-pub(crate) fn held_links_fine(
-    contents: [Contents; 256],
-    views: [View; 32],
-    links: [Links; 128],
-) -> bool
-    ensures { λ r. ⌜ r ≡ all (heldLinksFine contents views) links ⌝ }
+fn sender_links_fine(has: bool, l: Links, w: View) -> bool
+    ensures { λ r. ⌜ r ≡ linksDue has (w .links) l ⌝ }
+{
+    let to = l.to;
+    let due = due_links(has, w);
+    same_links(to, due)
+}
+
+pub(crate) fn held_links_fine(sets: [u32; 8], views: [View; 32], links: [Links; 128]) -> bool
+    ensures { λ r. ⌜ r ≡ all (linksIn sets views) links ⌝ }
 {
     let mut at: usize = 0;
     while at < 128 {
         let w = views[at % 16 * 2];
-        let c = contents[at / 16 * 32 + at % 16 * 2];
         let l = links[at];
-        let fine = sender_links_fine(c.held, l, w);
+        let has = is_in(sets[at / 16], at % 16 * 2);
+        let fine = sender_links_fine(has, l, w);
         if !fine {
             return false;
         }
@@ -156,50 +151,76 @@ fn all_linkable(stores: u8, made: u8) -> [u8; 32]
     rooms
 }
 
-// These two loops, too, leave at no test.
-fn links_within(rooms: [u8; 32], links: [u8; 32]) -> bool
-    ensures { λ r. ⌜ r ≡ all (λ v link. leb link (getD rooms v 0)) links ⌝ }
+// Both rows of a store, working and checkpointed. This loop, too, leaves at no test.
+fn links_within(rooms: [u8; 32], links: [u8; 32], kept: [u8; 32]) -> bool
+    ensures { λ r. ⌜ r ≡ allBelow 32 (λ v. leb (getD links v 0) (getD rooms v 0) && leb (getD kept v 0) (getD rooms v 0)) ⌝ }
 {
     let mut fine = true;
     let mut v: usize = 0;
     while v < 32 {
-        fine = both(fine, links[v] <= rooms[v]);
+        fine = both(fine, both(links[v] <= rooms[v], kept[v] <= rooms[v]));
         v += 1;
     }
     fine
 }
 
-fn blank_row(links: [u8; 32]) -> bool
-    ensures { λ r. ⌜ r ≡ all (λ v link. eqb link 0) links ⌝ }
+// A store behind the last has no link.
+fn rows_within(stores: u8, rooms: [u8; 32], p: usize, links: [u8; 32], kept: [u8; 32]) -> bool
+    ensures { λ r. ⌜ r ≡ rowsWithin stores rooms p links kept ⌝ }
 {
-    let mut blank = true;
-    let mut v: usize = 0;
-    while v < 32 {
-        blank = both(blank, links[v] == 0);
-        v += 1;
+    if p < stores as usize {
+        return links_within(rooms, links, kept);
     }
-    blank
+    let none = [0u8; 32];
+    links_within(none, links, kept)
 }
 
-// A store behind the last is not up, and has no link.
-fn store_fine(stores: u8, rooms: [u8; 32], p: usize, s: Store) -> bool
-    ensures { λ r. ⌜ r ≡ (eqb (length (s .viewlinks)) 32 && pick (ltb p stores) (all (λ v link. leb link (getD rooms v 0)) (s .viewlinks)) (not (s .up) && all (λ v link. eqb link 0) (s .viewlinks))) ⌝ }
+// .. is not up, holds nothing and owes nothing.
+fn blank_store(s: Store) -> bool
+    ensures { λ r. ⌜ r ≡ blankStore s ⌝ }
+{
+    let empty = both(both(!s.up, s.held == 0), s.kept == 0);
+    both(both(empty, s.acksowed == 0), s.uacksowed == 0)
+}
+
+fn there_or_blank(stores: u8, p: usize, s: Store) -> bool
+    ensures { λ r. ⌜ r ≡ (ltb p stores || blankStore s) ⌝ }
+{
+    if p < stores as usize {
+        return true;
+    }
+    blank_store(s)
+}
+
+// Notes are owed only of the views that may have an ack, a uack: `acked`, `uacked`.
+fn store_fine(stores: u8, rooms: [u8; 32], acked: u32, uacked: u32, p: usize, s: Store) -> bool
+    ensures { λ r. ⌜ r ≡ storeWithin stores rooms acked uacked p s ⌝ }
 {
     let links = s.viewlinks;
-    if p < stores as usize {
-        return links_within(rooms, links);
-    }
-    both(!s.up, blank_row(links))
+    let kept = s.keptlinks;
+    let noted = both(
+        both(there_or_blank(stores, p, s), notes_fine(acked, s.acksowed)),
+        notes_fine(uacked, s.uacksowed),
+    );
+    both(noted, rows_within(stores, rooms, p, links, kept))
 }
 
-pub(crate) fn stores_fine(stores: u8, made: u8, shelves: [Store; 8]) -> bool
-    ensures { λ r. ⌜ r ≡ all (storeFine stores made) shelves ⌝ }
+pub(crate) fn stores_fine(
+    stores: u8,
+    made: u8,
+    views: [View; 32],
+    entries: [Entry; 32],
+    shelves: [Store; 8],
+) -> bool
+    ensures { λ r. ⌜ r ≡ all (storeFine stores made views entries) shelves ⌝ }
 {
     let rooms = all_linkable(stores, made);
+    let acked = ready(views);
+    let uacked = entered(entries);
     let mut p: usize = 0;
     while p < 8 {
         let s = shelves[p];
-        let fine = store_fine(stores, rooms, p, s);
+        let fine = store_fine(stores, rooms, acked, uacked, p, s);
         if !fine {
             return false;
         }

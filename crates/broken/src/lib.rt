@@ -6,6 +6,7 @@ pub mod fresh;
 mod held;
 mod places;
 mod queues;
+mod sets;
 mod views;
 
 pub use broken::is_broken;

@@ -8,9 +8,9 @@ ghost use mathlib.Core.Bool.{true, _&&_, _||_, not};
 ghost use Prim.Native.Nat.{_≤_, _<_};
 ghost use lib.Dec.{eqb, ltb};
 ghost use lib.ListN.{take};
-ghost use Rattle.protocol.specs.Words.{bit, all};
+ghost use Rattle.protocol.specs.Words.{bit, joined, all};
 ghost use Rattle.protocol.specs.Broken.{rowsFine, waitsAt};
-ghost use Rattle.broken.specs.Marks.{allMet, marksAfter, mark, placeMet, queueMet, queueMarks, queuesMet, marksOf};
+ghost use Rattle.broken.specs.Marks.{allMet, marksAfter, placeMet, queueMet, queueMarks, queuesMet, marksOf};
 
 // What a pass over the queues finds: whether all is fine, and the views met, a bit each.
 pub(crate) struct Met {
@@ -61,10 +61,10 @@ fn waiting_fine(a: usize, i: usize, w: View) -> bool
     w.phase == 1
 }
 
-// A word of marks with the view's bit.
-fn marked(marks: u32, v: u8) -> u32
+// A set of views with one more.
+pub(crate) fn marked(marks: u32, v: u8) -> u32
     requires { ⌜ v < 32 ⌝ }
-    ensures { λ r. ⌜ r ≡ mark marks v ⌝ }
+    ensures { λ r. ⌜ r ≡ joined marks v ⌝ }
 {
     marks | (1u32 << v)
 }
@@ -85,8 +85,8 @@ fn place_met(marks: u32, a: usize, i: usize, v: u8, w: View) -> bool
 
 fn standing_met(views: [View; 32], a: usize, len: u8, standing: [u8; 16], before: u32) -> Met
     requires { ⌜ len ≤ 16 ⌝ }
-    ensures fine { λ r. ⌜ r .fine ≡ allMet (placeMet views a) mark before 0 (take len standing) ⌝ }
-    ensures marks { λ r. ⌜ (r .fine ≡ true → r .marks ≡ marksAfter mark before (take len standing)) ⌝ }
+    ensures fine { λ r. ⌜ r .fine ≡ allMet (placeMet views a) joined before 0 (take len standing) ⌝ }
+    ensures marks { λ r. ⌜ (r .fine ≡ true → r .marks ≡ marksAfter joined before (take len standing)) ⌝ }
 {
     let mut marks = before;
     let mut i: usize = 0;

@@ -2,7 +2,7 @@
 -- their effects, and in whatever store the walk finds a record, the record is the view's own. A walk is answered only on a
 -- machine that is not broken. Assumes nothing.
 use Prim.Native.Nat.{ℕ, _-_, _≤_, _<_}
-use mathlib.Core.Path.{_≡_, refl, ap}
+use mathlib.Core.Path.{_≡_, refl}
 use mathlib.Core.Bool.{_&&_, not}
 use mathlib.Core.List.{List, [], _∷_, map}
 use native.Mathlib.Omega.{arith}
@@ -10,19 +10,19 @@ use native.Mathlib.Decide.{decLt}
 use lib.Dec.{leb, eqb}
 use borrow.Author.Tests.{leb-false, eq-eqb}
 use Rattle.protocol.specs.Words.{times}
-use Rattle.protocol.specs.Slots.{number, contents}
+use Rattle.protocol.specs.Slots.{number, isLasting}
 use Rattle.protocol.specs.Broken.{brokenOf}
 use Rattle.protocol.specs.Closed.{closedOf}
 use Rattle.protocol.specs.Walk.{foundOf, walkOf}
 use Rattle.protocol.specs.Chain.{stated, keysOf, chainOf}
 use Rattle.protocol.specs.declared.State.{State}
-use Rattle.protocol.specs.declared.Contents.{Contents}
 use Rattle.unbroken.specs.Unbroken.{Unbroken}
 use Rattle.unbroken.proofs.Laws.{unbroken}
 use Rattle.unbroken.proofs.Laws.Room.{actors8}
-use Rattle.unbroken.proofs.Laws.Tests.{and-left, and-right, by-test, not-both}
+use Rattle.unbroken.proofs.Laws.Tests.{and-left, and-right, by-test}
+use Rattle.unbroken.proofs.Laws.Has.{has-kept}
 use Rattle.reaches.specs.Reaches.{Reach, here, by}
-use Rattle.reaches.proofs.Behind.{nothing-held}
+use Rattle.reaches.proofs.Behind.{lasting-slot}
 use Rattle.reaches.proofs.Laws.{answered-reaches, refused-empty}
 use Rattle.chains.specs.Chains.{Each, none, more, Lawful, LookedUp}
 
@@ -92,9 +92,9 @@ pub looked-up : LookedUp
 unfolding foundOf
 looked-up m k i link e b f =
     let u = answered m k e .whole in
-    let both = and-left (not (eqb link 0) && contents m (link - 1) (number i 0) .held) (closedOf m i) f in
-    let held = and-right (not (eqb link 0)) (contents m (link - 1) (number i 0) .held) both in
-    elim (decLt (link - 1) 8) [
-      | yes q ↦ (u .contentsAt (link - 1) (number i 0) q (omega arith) .sameActor held, u .contentsAt (link - 1) (number i 0) q (omega arith) .sameCauses held)
-      | no q ↦ not-both _ held (ap (λ (c : Contents). c .held) (nothing-held m (u .sized .contents) (link - 1) (number i 0) (omega arith)))
-    ]
+    let p = link - 1 in
+    let v = number i 0 in
+    let both = and-left (not (eqb link 0) && isLasting m p v) (closedOf m i) f in
+    let lasts = and-right (not (eqb link 0)) (isLasting m p v) both in
+    let slot = lasting-slot m u p v (omega arith) lasts in
+    (slot .sameActor (has-kept m p v lasts), slot .sameCauses (has-kept m p v lasts))

@@ -5,7 +5,7 @@ use mathlib.Core.Bool.{true}
 use mathlib.Core.List.{List, [], _∷_, map}
 use lib.ListN.{length}
 use Rattle.protocol.specs.Words.{bit}
-use Rattle.protocol.specs.Slots.{number, view, contents}
+use Rattle.protocol.specs.Slots.{number, view, lastingContents}
 use Rattle.protocol.specs.Walk.{foundOf, walkOf}
 use Rattle.protocol.specs.Chain.{stated, chainOf}
 use Rattle.protocol.specs.Provn.{textOf, linesOf, provnText, provnOf, provnBuffer}
@@ -57,7 +57,7 @@ Longest = (m : State) (k : ℕ) → length (provnText m k) ≤ 6247
 abbrev pub LookedUp : Type 0
 LookedUp =
     (m : State) (k i link : ℕ) → walkOf m k .answer ≡ 0 → i < 16 → foundOf m i link ≡ true →
-    (contents m (link - 1) (number i 0) .asserter ≡ stated m i .sender) × (contents m (link - 1) (number i 0) .causes ≡ stated m i .causes)
+    (lastingContents m (link - 1) (number i 0) .asserter ≡ stated m i .sender) × (lastingContents m (link - 1) (number i 0) .causes ≡ stated m i .causes)
 
 -- no two results of the call can both satisfy its promise
 abbrev pub OneDocument : Type 0

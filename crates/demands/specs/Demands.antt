@@ -18,6 +18,7 @@ use Rattle.keeps.specs.Laws.{MadeCounts, SendsNewKey, SendWritesLinks, ReceiveW
 use Rattle.keeps.specs.Laws.{Program, RefuserOut, ConstantOut, PretenderOut, ResultsDiffer}
 use Rattle.keeps.specs.Laws.{OneResult as OneStep}
 use Rattle.keeps.specs.Onward.{StepOnward, ClosedSays, ClosedStays}
+use Rattle.keeps.specs.Lasting.{BlankBacked, StepBacked, StepLasts}
 use Rattle.keeps.specs.Applies.{StepRefusals}
 use Rattle.reads.specs.Reading.{ReadsAlike, WritesAgain, OneReading, ReadAsItself, FormedExactly, BookIsShort}
 use Rattle.reads.specs.Run.{RunFolds, AnswersFold, BehindStay, RefusedBook, TakenAreZeros, ExampleRuns, IdleShutOut}
@@ -29,10 +30,11 @@ use Rattle.reaches.specs.Reaches.{AnsweredReaches, KeysFew, RefusedEmpty, Looku
 use Rattle.reaches.specs.Reaches.{OneResult as OneWalk}
 use Rattle.reaches.specs.Applies.{WalkRefusals, KeysLookedUp}
 use Rattle.marked.specs.Marked.{Claim}
-use Rattle.guarantees.specs.Guarantees.{OneAcknowledgement, KeptForEver, AsSent, CauseLinks, StaysClosed, ViewLinks, Lookup, TheDrain, Recovery, TheWalk, EveryWalk, Books, EveryCall}
+use Rattle.guarantees.specs.Guarantees.{OneAcknowledgement, KeptForEver, AckInFlight, UackInFlight, CrashLosesNothing, LastsForEver, AsSent, CauseLinks, StaysClosed, ViewLinks, Lookup, TheDrain, Recovery, TheWalk, EveryWalk, Books, EveryCall}
 use Rattle.bites.specs.Witnesses.{Witnesses, BoundMet}
 use Rattle.bites.specs.Wrong.{Bites}
 use Rattle.bites.specs.Further.{BitesFurther}
+use Rattle.bites.specs.Checkpoints.{BitesCheckpoints}
 
 pub record Demands : Type 0 where
   -- 1. Every call ends and answers, for every machine value, step and run book, and no two results satisfy its promise.
@@ -88,9 +90,13 @@ pub record Demands : Type 0 where
   pub idle-shut-out : IdleShutOut
   pub example-runs : ExampleRuns
   pub marked-runs : Claim
-  -- 3. From a legal setup, after any steps with losses, timeouts and crashes: the guarantees, in their order.
+  -- 3. From a legal setup, after any steps with losses, timeouts, crashes and checkpoints: the guarantees, in their order.
   pub one-acknowledgement : OneAcknowledgement
   pub kept-for-ever : KeptForEver
+  pub ack-in-flight : AckInFlight
+  pub uack-in-flight : UackInFlight
+  pub crash-loses-nothing : CrashLosesNothing
+  pub lasts-for-ever : LastsForEver
   pub as-sent : AsSent
   pub cause-links : CauseLinks
   pub stays-closed-for-ever : StaysClosed
@@ -105,6 +111,7 @@ pub record Demands : Type 0 where
   pub witnesses : Witnesses
   pub bites : Bites
   pub bites-further : BitesFurther
+  pub bites-checkpoints : BitesCheckpoints
   pub bound-met : BoundMet
   -- What they stand on, for any unbroken machine: a legal setup's and the empty one are unbroken, and no step breaks one.
   pub fresh-unbroken : (stores actors : ℕ) (homes lists : List ℕ) → legal stores actors homes lists ≡ true → length homes ≡ 8 → length lists ≡ 8 → brokenOf (freshWith stores actors homes lists) ≡ false
@@ -117,6 +124,9 @@ pub record Demands : Type 0 where
   pub step-onward : StepOnward
   pub closed-says : ClosedSays
   pub closed-stays : ClosedStays
+  pub blank-backed : BlankBacked
+  pub step-backed : StepBacked
+  pub step-lasts : StepLasts
   -- .. of the drain, and of the walk
   pub takes : TakesEachStep
   pub drain-ends : DrainEnds

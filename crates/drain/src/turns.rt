@@ -3,10 +3,10 @@ ghost use mathlib.Core.Path.{_≡_};
 ghost use mathlib.Core.Bool.{false};
 ghost use lib.ListN.{getD};
 ghost use Prim.Native.Nat.{_*_, _≤_, _<_};
-ghost use Rattle.protocol.specs.Words.{all};
+ghost use Rattle.protocol.specs.Words.{all, bit};
 ghost use Rattle.unbroken.specs.Bounds.{Bounds};
 ghost use Rattle.protocol.specs.Broken.{brokenOf};
-ghost use Rattle.protocol.specs.Slots.{place, noQueue, noView, noEntry};
+ghost use Rattle.protocol.specs.Slots.{place, noQueue, noView, noEntry, noStore};
 ghost use Rattle.protocol.specs.Drain.{lowest, unreceivedIn, busyIn, otherIn, awaitingIn, jobStep, repairIn, isUnfinished, unfinishedIn, entryIn};
 ghost use Rattle.protocol.specs.Drain.{coordinatorTurn, turnOf, course, upIn, drained};
 use machine::Answered;
@@ -88,6 +88,21 @@ fn copies(counts: [u8; 256], p: u8, v: u8) -> u8
     counts[p as usize * 32 + v as usize]
 }
 
+fn store_of(shelves: [Store; 8], p: u8) -> Store
+    requires { ⌜ p < 8 ⌝ }
+    ensures { λ r. ⌜ r ≡ getD shelves p noStore ⌝ }
+{
+    shelves[p as usize]
+}
+
+// Whether a note of a view is among those that a store owes.
+fn is_owed(notes: u32, v: u8) -> bool
+    requires { ⌜ v < 32 ⌝ }
+    ensures { λ r. ⌜ r ≡ bit notes v ⌝ }
+{
+    (notes >> v) % 2 == 1
+}
+
 fn head_of(queues: [Queue; 8], actor: u8) -> u8
     requires { ⌜ actor < 8 ⌝ }
     ensures { λ r. ⌜ r ≡ getD (getD queues actor noQueue .views) 0 0 ⌝ }
@@ -103,11 +118,20 @@ fn view_of(views: [View; 32], v: u8) -> View
     views[v as usize]
 }
 
-// The head v in phase 3, at its current store p: an ack from there, else that store takes a record copy, else timeout to
-// the lowest other store in the list.
-fn awaiting_step(stores: u8, list: u8, actor: u8, v: u8, p: u8, acks: u8, records: u8) -> Step
+// The head v in phase 3, at its current store p: an ack from there, else a checkpoint if that store owes one, else that store
+// takes a record copy, else timeout to the lowest other store in the list.
+fn awaiting_step(
+    stores: u8,
+    list: u8,
+    actor: u8,
+    v: u8,
+    p: u8,
+    acks: u8,
+    owed: bool,
+    records: u8,
+) -> Step
     requires { ⌜ stores ≤ 8 ⌝ }
-    ensures { λ r. ⌜ r ≡ awaitingIn stores list actor v p acks records ⌝ }
+    ensures { λ r. ⌜ r ≡ awaitingIn stores list actor v p acks owed records ⌝ }
 {
     if acks != 0 {
         return Step::TakeAck {
@@ -115,6 +139,9 @@ fn awaiting_step(stores: u8, list: u8, actor: u8, v: u8, p: u8, acks: u8, record
             key: v / 2,
             role: v % 2,
         };
+    }
+    if owed {
+        return Step::Checkpoint { store: p };
     }
     if records != 0 {
         return Step::TakeRecord {
@@ -150,6 +177,8 @@ fn job_step(m: State, actor: u8) -> Step
     }
     let p = w.store;
     let lists = m.lists;
+    let shelves = m.shelves;
+    let s = store_of(shelves, p);
     let acks = m.acks;
     let records = m.records;
     awaiting_step(
@@ -159,6 +188,7 @@ fn job_step(m: State, actor: u8) -> Step
         v,
         p,
         copies(acks, p, v),
+        is_owed(s.acksowed, v),
         copies(records, p, v),
     )
 }
@@ -207,9 +237,10 @@ fn entry_due(end: u8, entries: [Entry; 32]) -> u8
     v
 }
 
-// To-send: step 10. Waiting: a uack from the destination, else an update there, else step 13.
-fn entry_step(v: u8, e: Entry, uacks: u8, updates: u8) -> Step
-    ensures { λ r. ⌜ r ≡ entryIn v e uacks updates ⌝ }
+// To-send: step 10. Waiting: a uack from the destination, else a checkpoint if that owes one, else an update there, else
+// step 13.
+fn entry_step(v: u8, e: Entry, uacks: u8, owed: bool, updates: u8) -> Step
+    ensures { λ r. ⌜ r ≡ entryIn v e uacks owed updates ⌝ }
 {
     let status = e.status;
     let key = v / 2;
@@ -225,6 +256,11 @@ fn entry_step(v: u8, e: Entry, uacks: u8, updates: u8) -> Step
             store: e.destination,
             key: key,
             role: role,
+        };
+    }
+    if owed {
+        return Step::Checkpoint {
+            store: e.destination,
         };
     }
     if updates != 0 {
@@ -266,9 +302,17 @@ fn coordinator_turn(m: State) -> Turn
     if u < end {
         let e = entry_of(entries, u);
         let p = e.destination;
+        let shelves = m.shelves;
+        let s = store_of(shelves, p);
         let uacks = m.uacks;
         let updates = m.updates;
-        return Turn::Take(entry_step(u, e, copies(uacks, p, u), copies(updates, p, u)));
+        return Turn::Take(entry_step(
+            u,
+            e,
+            copies(uacks, p, u),
+            is_owed(s.uacksowed, u),
+            copies(updates, p, u),
+        ));
     }
     Turn::Rest
 }
@@ -316,13 +360,13 @@ pub(crate) fn all_up(stores: u8, shelves: [Store; 8]) -> bool
     true
 }
 
-// Turns, one after another, at most 18 for each interaction. The machine stays where it is: the call reads it there and
+// Turns, one after another, at most 22 for each interaction. The machine stays where it is: the call reads it there and
 // writes it there.
 pub(crate) fn turns(from: State) -> Drained
     requires { ⌜ brokenOf from ≡ false ⌝ }
-    ensures { λ r. ⌜ r ≡ drained (course (from .made * 18) from) ⌝ }
+    ensures { λ r. ⌜ r ≡ drained (course (from .made * 22) from) ⌝ }
 {
-    let limit = from.made as u16 * 18;
+    let limit = from.made as u16 * 22;
     let machine = Machine { state: from };
     let mut r = Answered { machine, answer: 0 };
     let mut count: u16 = 0;

@@ -24,7 +24,7 @@ use Rattle.unbroken.proofs.Laws.Lowest.{lowest, from-none, from-test}
 module _ (m : State) where
   -- what the two tests give
   abbrev given : Bool → Bool → Drained
-  given broken up = pick broken (record { state = m; answer = 1; count = 0 }) (pick (not up) (record { state = m; answer = 5; count = 0 }) (drained (course (m .made * 18) m)))
+  given broken up = pick broken (record { state = m; answer = 1; count = 0 }) (pick (not up) (record { state = m; answer = 5; count = 0 }) (drained (course (m .made * 22) m)))
 
   answer-of : (broken up : Bool) → pick broken 1 (pick (not up) 5 0) ≡ given broken up .answer
   answer-of true up = refl

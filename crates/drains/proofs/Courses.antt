@@ -1,4 +1,4 @@
--- The laws of the drain: as each step leaves one step less, and no machine has more than 18 left for an interaction, it comes to
+-- The laws of the drain: as each step leaves one step less, and no machine has more than 22 left for an interaction, it comes to
 -- rest before the stop. By induction on the stop; assumes nothing.
 use Prim.Native.Nat.{ℕ, zero, suc, _*_, _≤_, _<_}
 use mathlib.Core.Path.{_≡_, refl, sym, ap, _∙_, subst}
@@ -51,10 +51,10 @@ unfolding drainOf
 count-few m = go (brokenOf m) (allUp m)
   where
     go : (b c : Bool) → pick {A = Drained} b (record { state = m; answer = 1; count = 0 })
-        (pick (not c) (record { state = m; answer = 5; count = 0 }) (record { state = endOf m; answer = 0; count = length (stepsOf m) })) .count ≤ m .made * 18
+        (pick (not c) (record { state = m; answer = 5; count = 0 }) (record { state = endOf m; answer = 0; count = length (stepsOf m) })) .count ≤ m .made * 22
     go true c = omega arith
     go false false = omega arith
-    go false true = course-few (m .made * 18) m
+    go false true = course-few (m .made * 22) m
 
 -- what the drain sees of an unbroken machine's views
 regular : (m : State) → Unbroken m → (v : ℕ) → v < m .made * 2 → Regular (seenOf m v)
@@ -157,12 +157,12 @@ drained m d = rw (d .unbroken, d .up)
 pub drain-ends : DrainEnds
 drain-ends m d =
     let most = total-most m (regular m (unbroken m (d .unbroken))) in
-    let c = comes (m .made * 18) m d most in
+    let c = comes (m .made * 22) m d most in
     let rest : AtRest (endOf m) = subst (Does (endOf m)) (c .rests) (next (endOf m) (c .drainable)) in
     record {
       result = drained m d;
       rests = c .rests;
-      unstopped = λ n h. same-course n (m .made * 18) m d (omega arith) most;
+      unstopped = λ n h. same-course n (m .made * 22) m d (omega arith) most;
       count = omega (arith, c .count);
       run = c .run;
       taken = c .taken;
@@ -173,7 +173,7 @@ drain-ends m d =
 
 drained-resting : (m : State) → Drainable m → turnOf m ≡ Rest → drainOf m ≡ record { state = m; answer = 0; count = 0 }
 unfolding drainOf
-drained-resting m d e = rw (d .unbroken, d .up, course-resting (m .made * 18) m e)
+drained-resting m d e = rw (d .unbroken, d .up, course-resting (m .made * 22) m e)
 
 pub drains-once : DrainsOnce
 drains-once m d =

@@ -3,16 +3,17 @@
 use Prim.Native.Nat.{ℕ, _-_, _*_, _≤_, _<_}
 use mathlib.Core.Path.{_≡_, refl}
 use mathlib.Core.Logic.{_≢_}
-use mathlib.Core.Bool.{Bool, true, false, _||_, not, true≢false}
+use mathlib.Core.Bool.{Bool, true, false, not, true≢false}
 use native.Mathlib.Omega.{arith}
-use lib.Dec.{eqb, leb}
+use lib.Dec.{eqb}
 use lib.ListN.{length, set, length-set}
 use lib.Seq.{getD-set-same, getD-set-other}
 use borrow.Author.Tests.{eq-eqb, lt-leb}
-use Rattle.protocol.specs.Slots.{number, place, noRepair, noEntry, statusNumber, isUp, view, repair, entry, updateCopies, uackCopies}
+use Rattle.protocol.specs.Words.{bit}
+use Rattle.protocol.specs.Slots.{number, place, noRepair, noEntry, statusNumber, isUp, shelf, view, repair, entry, updateCopies, uackCopies, owesUack}
 use Rattle.unbroken.specs.Unbroken.{Unbroken}
 use Rattle.unbroken.proofs.Laws.Room.{made-32}
-use Rattle.unbroken.proofs.Shelves.{linked-all}
+use Rattle.unbroken.proofs.Shelves.{shelf-left, shelf-unseen}
 use Rattle.protocol.specs.declared.State.{State}
 use Rattle.protocol.specs.declared.Entry.{Entry}
 use Rattle.protocol.specs.declared.Status.{Status}
@@ -20,12 +21,13 @@ use Rattle.protocol.specs.declared.Status.the-variants.{Nothing, ToSend, Waitin
 use Rattle.protocol.specs.Rule.{more}
 use Rattle.protocol.specs.TakeRepair.{takeRepairNo, repairTaken, entered, repairedEntry, redirectedEntry}
 use Rattle.protocol.specs.SendUpdate.{sendUpdateNo, updateSent, inStatus}
-use Rattle.protocol.specs.TakeUpdate.{takeUpdateNo, updateTaken}
+use Rattle.protocol.specs.TakeUpdate.{takeUpdateNo, updateTaken, updatedIn}
 use Rattle.protocol.specs.TakeUack.{takeUackNo, uackTaken, finishedEntry}
 use Rattle.protocol.specs.Expire.{expireNo, expired}
 use Rattle.protocol.specs.declared.Step.the-variants.{TakeRepair, SendUpdate, TakeUpdate, TakeUack, Expire}
-use Rattle.protocol.specs.Drain.{keyOf, roleOf}
+use Rattle.protocol.specs.Drain.{keyOf, roleOf, upIn}
 use Rattle.drains.proofs.StepsLeft.{Seen, seen, stepsLeft, repairToCome, hasEntry, repair-lowers, second-repair-lowers, sendUpdate-lowers, takeUpdate-lowers, takeUack-lowers, expire-lowers}
+use Rattle.drains.proofs.Owing.{owing-now, owing-far}
 use Rattle.drains.proofs.Total.{seenOf, total-less, total-falls, opposite}
 use Rattle.drains.proofs.Jobs.{Lowers, same-number, some-more, place-other}
 
@@ -72,7 +74,7 @@ module _ (m : State) (w : Unbroken m) (v : ℕ) (hv : v < m .made * 2) where
   its = redirectedEntry (repair m v) (entry m o)
 
   repaired-own : seenOf (repairTaken m (keyOf v) (roleOf v)) v
-      ≡ seen (s .phase) (s .changed) false ToSend (s .ack) (s .sent) (not (eqb (uackCopies m (mine .destination) v) 0)) (not (eqb (updateCopies m (mine .destination) v) 0))
+      ≡ seen (s .phase) (s .changed) false ToSend (s .ack) (s .ackOwed) (s .sent) (not (eqb (uackCopies m (mine .destination) v) 0)) (owesUack m (mine .destination) v) (not (eqb (updateCopies m (mine .destination) v) 0))
   unfolding repairTaken seenOf
   repaired-own =
       rw (
@@ -83,7 +85,7 @@ module _ (m : State) (w : Unbroken m) (v : ℕ) (hv : v < m .made * 2) where
       )
 
   repaired-other : seenOf (repairTaken m (keyOf v) (roleOf v)) o
-      ≡ seen (t .phase) (t .changed) (t .repair) (its .status) (t .ack) (t .sent) (not (eqb (uackCopies m (its .destination) o) 0)) (not (eqb (updateCopies m (its .destination) o) 0))
+      ≡ seen (t .phase) (t .changed) (t .repair) (its .status) (t .ack) (t .ackOwed) (t .sent) (not (eqb (uackCopies m (its .destination) o) 0)) (owesUack m (its .destination) o) (not (eqb (updateCopies m (its .destination) o) 0))
   unfolding repairTaken seenOf
   repaired-other =
       rw (
@@ -108,15 +110,15 @@ module _ (m : State) (w : Unbroken m) (v : ℕ) (hv : v < m .made * 2) where
   repaired-low settled there = rw (repaired-own, repaired-other, settled, there) (go (entered (entry m o)) refl)
     where
       go : (b : Bool) → entered (entry m o) ≡ b
-          → stepsLeft (seen 5 (s .changed) false ToSend (s .ack) (s .sent) (not (eqb (uackCopies m (mine .destination) v) 0)) (not (eqb (updateCopies m (mine .destination) v) 0)))
-          (seen (t .phase) (t .changed) (t .repair) (its .status) (t .ack) (t .sent) (not (eqb (uackCopies m (its .destination) o) 0)) (not (eqb (updateCopies m (its .destination) o) 0)))
-          < stepsLeft (seen 5 (s .changed) true (s .status) (s .ack) (s .sent) (s .uack) (s .update)) t
+          → stepsLeft (seen 5 (s .changed) false ToSend (s .ack) (s .ackOwed) (s .sent) (not (eqb (uackCopies m (mine .destination) v) 0)) (owesUack m (mine .destination) v) (not (eqb (updateCopies m (mine .destination) v) 0)))
+          (seen (t .phase) (t .changed) (t .repair) (its .status) (t .ack) (t .ackOwed) (t .sent) (not (eqb (uackCopies m (its .destination) o) 0)) (owesUack m (its .destination) o) (not (eqb (updateCopies m (its .destination) o) 0)))
+          < stepsLeft (seen 5 (s .changed) true (s .status) (s .ack) (s .ackOwed) (s .sent) (s .uack) (s .uackOwed) (s .update)) t
       go true e =
-          rw e (second-repair-lowers (s .changed) (s .ack) (s .sent) (s .uack) (s .update) _ _ (s .status)
-          (t .phase) (t .changed) (t .repair) (t .ack) (t .sent) (t .uack) (t .update) (t .status) _ _ e)
+          rw e (second-repair-lowers (s .changed) (s .ack) (s .ackOwed) (s .sent) (s .uack) (s .uackOwed) (s .update) _ _ _ (s .status)
+          (t .phase) (t .changed) (t .repair) (t .ack) (t .ackOwed) (t .sent) (t .uack) (t .uackOwed) (t .update) (t .status) _ _ _ e)
       go false e =
-          rw (e, no-entry (entry m o .status) e) (repair-lowers (s .changed) (s .ack) (s .sent) (s .uack) (s .update) _ _ (s .status)
-          (t .phase) (t .changed) (t .repair) (t .ack) (t .sent) (t .uack) (t .update))
+          rw (e, no-entry (entry m o .status) e) (repair-lowers (s .changed) (s .ack) (s .ackOwed) (s .sent) (s .uack) (s .uackOwed) (s .update) _ _ _ (s .status)
+          (t .phase) (t .changed) (t .repair) (t .ack) (t .ackOwed) (t .sent) (t .uack) (t .uackOwed) (t .update))
 
   pub takeRepair-good : repair m v .flying ≡ true → Lowers m (TakeRepair (keyOf v) (roleOf v))
   unfolding takeRepairNo repairTaken
@@ -153,8 +155,8 @@ module _ (m : State) (w : Unbroken m) (v : ℕ) (hv : v < m .made * 2) where
         let n = updateSent m (keyOf v) (roleOf v) in
         let e = inStatus Waiting (entry m v) in
         let c = more (updateCopies m p v) in
-        let before : s ≡ seen 5 (s .changed) false ToSend (s .ack) (s .sent) (s .uack) (s .update) = rw (settled, idle, h) in
-        let after : seenOf n v ≡ seen 5 (s .changed) false Waiting (s .ack) (s .sent) (s .uack) true
+        let before : s ≡ seen 5 (s .changed) false ToSend (s .ack) (s .ackOwed) (s .sent) (s .uack) (s .uackOwed) (s .update) = rw (settled, idle, h) in
+        let after : seenOf n v ≡ seen 5 (s .changed) false Waiting (s .ack) (s .ackOwed) (s .sent) (s .uack) (s .uackOwed) true
         = rw (same-number v, getD-set-same (m .entries) v e noEntry inEntries, getD-set-same (m .updates) (place p v) c 0 inUpdates, some-more (updateCopies m p v), settled, idle) in
         record {
           taken = rw (lt-leb (m .made) (keyOf v) key, lt-leb 2 (roleOf v) (omega arith), same-number v, h);
@@ -165,7 +167,7 @@ module _ (m : State) (w : Unbroken m) (v : ℕ) (hv : v < m .made * 2) where
                 getD-set-other (m .entries) v u e noEntry d,
                 getD-set-other (m .updates) (place p v) (place (entry m u .destination) u) c 0 (elsewhere u l d),
               ))
-              (sendUpdate-lowers t none (s .changed) (s .ack) (s .sent) (s .uack) (s .update));
+              (sendUpdate-lowers t none (s .changed) (s .ack) (s .ackOwed) (s .sent) (s .uack) (s .uackOwed) (s .update));
           up = refl;
           stores = refl;
           made = refl;
@@ -182,8 +184,8 @@ module _ (m : State) (w : Unbroken m) (v : ℕ) (hv : v < m .made * 2) where
           let n = uackTaken m p (keyOf v) (roleOf v) in
           let e = inStatus Done (entry m v) in
           let c = uackCopies m p v - 1 in
-          let before : s ≡ seen 5 (s .changed) false Waiting (s .ack) (s .sent) true (s .update) = rw (settled, idle, h, there) in
-          let after : seenOf n v ≡ seen 5 (s .changed) false Done (s .ack) (s .sent) (not (eqb c 0)) (s .update)
+          let before : s ≡ seen 5 (s .changed) false Waiting (s .ack) (s .ackOwed) (s .sent) true (s .uackOwed) (s .update) = rw (settled, idle, h, there) in
+          let after : seenOf n v ≡ seen 5 (s .changed) false Done (s .ack) (s .ackOwed) (s .sent) (not (eqb c 0)) (s .uackOwed) (s .update)
           = rw (same-number v, finished, getD-set-same (m .entries) v e noEntry inEntries, getD-set-same (m .uacks) (place p v) c 0 inUacks, settled, idle) in
           record {
             taken = rw (lt-leb (m .stores) p at, lt-leb (m .made) (keyOf v) key, lt-leb 2 (roleOf v) (omega arith), same-number v, there);
@@ -195,21 +197,30 @@ module _ (m : State) (w : Unbroken m) (v : ℕ) (hv : v < m .made * 2) where
                   getD-set-other (m .entries) v u e noEntry d,
                   getD-set-other (m .uacks) (place p v) (place (entry m u .destination) u) c 0 (elsewhere u l d),
                 ))
-                (takeUack-lowers t none (s .changed) (s .ack) (s .sent) (s .update) _);
+                (takeUack-lowers t none (s .changed) (s .ack) (s .ackOwed) (s .sent) (s .uackOwed) (s .update) _);
             up = refl;
             stores = refl;
             made = refl;
           }
 
-      pub takeUpdate-good : isUp m p ≡ true → eqb (uackCopies m p v) 0 ≡ true → eqb (updateCopies m p v) 0 ≡ false → Lowers m (TakeUpdate p (keyOf v) (roleOf v))
+      pub takeUpdate-good : isUp m p ≡ true → eqb (uackCopies m p v) 0 ≡ true → owesUack m p v ≡ false → eqb (updateCopies m p v) 0 ≡ false → Lowers m (TakeUpdate p (keyOf v) (roleOf v))
       unfolding takeUpdateNo updateTaken seenOf
-      takeUpdate-good up noUack there =
+      takeUpdate-good up noUack notOwed there =
           let n = updateTaken m p (keyOf v) (roleOf v) in
           let c = updateCopies m p v - 1 in
-          let d = more (uackCopies m p v) in
-          let before : s ≡ seen 5 (s .changed) false Waiting (s .ack) (s .sent) false true = rw (settled, idle, h, noUack, there) in
-          let after : seenOf n v ≡ seen 5 (s .changed) false Waiting (s .ack) (s .sent) true (not (eqb c 0))
-          = rw (same-number v, getD-set-same (m .updates) (place p v) c 0 inUpdates, getD-set-same (m .uacks) (place p v) d 0 inUacks, some-more (uackCopies m p v), settled, idle, h) in
+          let x = updatedIn (shelf m p) v (number (keyOf v) (1 - roleOf v)) (entry m v .own) in
+          let before : s ≡ seen 5 (s .changed) false Waiting (s .ack) (s .ackOwed) (s .sent) false false true = rw (settled, idle, h, noUack, notOwed, there) in
+          let after : seenOf n v ≡ seen 5 (s .changed) false Waiting (s .ack) (s .ackOwed) (s .sent) false true (not (eqb c 0))
+          = rw (
+            same-number v,
+            getD-set-same (m .updates) (place p v) c 0 inUpdates,
+            owing-now (m .shelves) p v x (λ y. y .uacksowed) refl (w .sized .shelves) (omega arith),
+            shelf-left (m .shelves) p x (λ y. bit (y .acksowed) v) refl (view m v .store),
+            noUack,
+            settled,
+            idle,
+            h,
+          ) in
           record {
             taken = rw (lt-leb (m .stores) p at, lt-leb (m .made) (keyOf v) key, lt-leb 2 (roleOf v) (omega arith), same-number v, up, there);
             lower = total-falls m n refl v hv _ _ before after
@@ -217,26 +228,27 @@ module _ (m : State) (w : Unbroken m) (v : ℕ) (hv : v < m .made * 2) where
                 rw (
                   same-number v,
                   getD-set-other (m .updates) (place p v) (place (entry m u .destination) u) c 0 (elsewhere u l e),
-                  getD-set-other (m .uacks) (place p v) (place (entry m u .destination) u) d 0 (elsewhere u l e),
+                  owing-far (m .shelves) p v x (λ y. y .uacksowed) refl (entry m u .destination) u e,
+                  shelf-left (m .shelves) p x (λ y. bit (y .acksowed) u) refl (view m u .store),
                 ))
-                (takeUpdate-lowers t none (s .changed) (s .ack) (s .sent) _);
-            up = linked-all (m .shelves) p (number (keyOf v) (1 - roleOf v)) _ (λ q b. leb (m .stores) q || b);
+                (takeUpdate-lowers t none (s .changed) (s .ack) (s .ackOwed) (s .sent) _);
+            up = shelf-unseen (m .shelves) p (updatedIn (shelf m p) (number (keyOf v) (roleOf v)) (number (keyOf v) (1 - roleOf v)) (entry m (number (keyOf v) (roleOf v)) .own)) (upIn (m .stores)) (λ q. refl);
             stores = refl;
             made = refl;
           }
 
-      pub expire-good : eqb (uackCopies m p v) 0 ≡ true → eqb (updateCopies m p v) 0 ≡ true → Lowers m (Expire (keyOf v) (roleOf v))
+      pub expire-good : eqb (uackCopies m p v) 0 ≡ true → owesUack m p v ≡ false → eqb (updateCopies m p v) 0 ≡ true → Lowers m (Expire (keyOf v) (roleOf v))
       unfolding expireNo expired seenOf
-      expire-good noUack noUpdate =
+      expire-good noUack notOwed noUpdate =
           let n = expired m (keyOf v) (roleOf v) in
           let e = inStatus ToSend (entry m v) in
-          let before : s ≡ seen 5 (s .changed) false Waiting (s .ack) (s .sent) false false = rw (settled, idle, h, noUack, noUpdate) in
-          let after : seenOf n v ≡ seen 5 (s .changed) false ToSend (s .ack) (s .sent) false false
-          = rw (same-number v, getD-set-same (m .entries) v e noEntry inEntries, settled, idle, noUack, noUpdate) in
+          let before : s ≡ seen 5 (s .changed) false Waiting (s .ack) (s .ackOwed) (s .sent) false false false = rw (settled, idle, h, noUack, notOwed, noUpdate) in
+          let after : seenOf n v ≡ seen 5 (s .changed) false ToSend (s .ack) (s .ackOwed) (s .sent) false false false
+          = rw (same-number v, getD-set-same (m .entries) v e noEntry inEntries, settled, idle, noUack, notOwed, noUpdate) in
           record {
             taken = rw (lt-leb (m .made) (keyOf v) key, lt-leb 2 (roleOf v) (omega arith), same-number v, h);
             lower = total-falls m n refl v hv _ _ before after (λ u l d. rw (same-number v, getD-set-other (m .entries) v u e noEntry d))
-                (expire-lowers t none (s .changed) (s .ack) (s .sent));
+                (expire-lowers t none (s .changed) (s .ack) (s .ackOwed) (s .sent));
             up = refl;
             stores = refl;
             made = refl;

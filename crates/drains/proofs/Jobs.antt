@@ -3,18 +3,18 @@
 use Prim.Native.Nat.{ℕ, _+_, _-_, _*_, _≤_, _<_}
 use mathlib.Core.Path.{_≡_, refl, ap, _∙_}
 use mathlib.Core.Logic.{_≢_}
-use mathlib.Core.Bool.{Bool, true, false, _||_, not}
+use mathlib.Core.Bool.{Bool, true, false, not}
 use native.Mathlib.Omega.{arith}
-use lib.Dec.{eqb, ltb, leb}
+use lib.Dec.{eqb, ltb}
 use lib.ListN.{length}
 use lib.Seq.{getD-set-same, getD-set-other}
 use borrow.Author.Tests.{eq-eqb, ne-eqb, lt-leb, ltb-false}
 use Rattle.protocol.specs.Words.{pick, bit}
-use Rattle.protocol.specs.Slots.{number, place, noView, noRepair, isUp, list, queue, view, repair, recordCopies, ackCopies}
+use Rattle.protocol.specs.Slots.{number, place, noView, noRepair, isUp, shelf, list, queue, view, repair, entry, recordCopies, ackCopies, owesAck}
 use Rattle.protocol.specs.Writes.{withView, withRecordCopies, withAckCopies}
 use Rattle.unbroken.specs.Unbroken.{Unbroken}
 use Rattle.unbroken.proofs.Laws.Room.{made-32}
-use Rattle.unbroken.proofs.Shelves.{linked-all}
+use Rattle.unbroken.proofs.Shelves.{shelf-left, shelf-unseen}
 use Rattle.protocol.specs.declared.State.{State}
 use Rattle.protocol.specs.declared.View.{View}
 use Rattle.protocol.specs.declared.Repair.{Repair}
@@ -24,14 +24,15 @@ use Rattle.protocol.specs.Receive.{receiveNo, receivedOf, receivedView}
 use Rattle.protocol.specs.PreCheck.{preCheckNo, preChecked, checkedView}
 use Rattle.protocol.specs.SendRecord.{sendRecordNo, recordSent}
 use Rattle.protocol.specs.Timeout.{timeoutNo, timedOut, timedView}
-use Rattle.protocol.specs.TakeRecord.{takeRecordNo, recordTaken}
+use Rattle.protocol.specs.TakeRecord.{takeRecordNo, recordTaken, takenIn}
 use Rattle.protocol.specs.TakeAck.{takeAckNo, ackTaken}
 use Rattle.protocol.specs.PostCheck.{postCheckNo, postChecked, askedRepair}
 use Rattle.protocol.specs.Step.{numberOf, afterOf}
 use Rattle.protocol.specs.declared.Step.{Step}
 use Rattle.protocol.specs.declared.Step.the-variants.{Receive, PreCheck, SendRecord, Timeout, TakeRecord, TakeAck, PostCheck}
-use Rattle.protocol.specs.Drain.{keyOf, roleOf, allUp}
+use Rattle.protocol.specs.Drain.{keyOf, roleOf, upIn, allUp}
 use Rattle.drains.proofs.StepsLeft.{Seen, seen, receive-lowers, preCheck-lowers, sendRecord-lowers, timeout-lowers, takeRecord-lowers, takeAck-lowers, postCheck-lowers}
+use Rattle.drains.proofs.Owing.{owing-now, owing-far}
 use Rattle.drains.proofs.Total.{seenOf, total, total-falls, opposite}
 
 -- a step of the drain that is taken and leaves one step less, with the stores as up as they were
@@ -78,7 +79,7 @@ module _ (m : State) (w : Unbroken m) (v : ℕ) (hv : v < m .made * 2) where
 
   -- a view written anew
   seen-view : (x : View) → seenOf (withView m v x) v
-      ≡ seen (x .phase) (x .changed) (me .repair) (me .status) (not (eqb (ackCopies m (x .store) v) 0)) (not (eqb (recordCopies m (x .store) v) 0)) (me .uack) (me .update)
+      ≡ seen (x .phase) (x .changed) (me .repair) (me .status) (not (eqb (ackCopies m (x .store) v) 0)) (owesAck m (x .store) v) (not (eqb (recordCopies m (x .store) v) 0)) (me .uack) (me .uackOwed) (me .update)
   unfolding seenOf
   seen-view x = rw (getD-set-same (m .views) v x noView inViews)
 
@@ -92,7 +93,7 @@ module _ (m : State) (w : Unbroken m) (v : ℕ) (hv : v < m .made * 2) where
     inPlaces = omega (arith, w .made16)
 
     seen-record : seenOf (withRecordCopies (withView m v x) (x .store) v c) v
-        ≡ seen (x .phase) (x .changed) (me .repair) (me .status) (not (eqb (ackCopies m (x .store) v) 0)) (not (eqb c 0)) (me .uack) (me .update)
+        ≡ seen (x .phase) (x .changed) (me .repair) (me .status) (not (eqb (ackCopies m (x .store) v) 0)) (owesAck m (x .store) v) (not (eqb c 0)) (me .uack) (me .uackOwed) (me .update)
     unfolding seenOf
     seen-record =
         rw (getD-set-same (m .views) v x noView inViews, getD-set-same (m .records) (place (x .store) v) c 0 (omega (arith, w .sized .records, inPlaces)))
@@ -106,7 +107,7 @@ module _ (m : State) (w : Unbroken m) (v : ℕ) (hv : v < m .made * 2) where
         )
 
     seen-ack : seenOf (withAckCopies (withView m v x) (x .store) v c) v
-        ≡ seen (x .phase) (x .changed) (me .repair) (me .status) (not (eqb c 0)) (not (eqb (recordCopies m (x .store) v) 0)) (me .uack) (me .update)
+        ≡ seen (x .phase) (x .changed) (me .repair) (me .status) (not (eqb c 0)) (owesAck m (x .store) v) (not (eqb (recordCopies m (x .store) v) 0)) (me .uack) (me .uackOwed) (me .update)
     unfolding seenOf
     seen-ack =
         rw (getD-set-same (m .views) v x noView inViews, getD-set-same (m .acks) (place (x .store) v) c 0 (omega (arith, w .sized .acks, inPlaces)))
@@ -127,11 +128,11 @@ receive-good m w k hk h =
     let hv : number k 1 < m .made * 2 = omega arith in
     let x = receivedView m k in
     let s = me m w v hv in
-    let before : s ≡ seen 0 false (s .repair) (s .status) (s .ack) (s .sent) (s .uack) (s .update) = rw (h, ap (λ (y : View). y .changed) (w .viewAt v (made-32 m w v hv) .unset h)) in
+    let before : s ≡ seen 0 false (s .repair) (s .status) (s .ack) (s .ackOwed) (s .sent) (s .uack) (s .uackOwed) (s .update) = rw (h, ap (λ (y : View). y .changed) (w .viewAt v (made-32 m w v hv) .unset h)) in
     record {
       taken = rw (lt-leb (m .made) k hk, eq-eqb (view m v .phase) 0 h);
       lower = total-falls m (receivedOf m k) refl v hv _ _ before (seen-view m w v hv x) (view-far m w v hv x)
-          (receive-lowers (it m w v hv) (s .repair) (s .status) (s .uack) (s .update) _ _ (s .ack) (s .sent));
+          (receive-lowers (it m w v hv) (s .repair) (s .status) (s .uack) (s .uackOwed) (s .update) _ _ _ (s .ack) (s .ackOwed) (s .sent));
       up = refl;
       stores = refl;
       made = refl;
@@ -145,7 +146,7 @@ module _ (m : State) (w : Unbroken m) (a : ℕ) (ha : a < m .actors) (some : que
   abbrev s : Seen
   s = seenOf m v
 
-  phased-as : (n : ℕ) → view m v .phase ≡ n → s ≡ seen n (s .changed) (s .repair) (s .status) (s .ack) (s .sent) (s .uack) (s .update)
+  phased-as : (n : ℕ) → view m v .phase ≡ n → s ≡ seen n (s .changed) (s .repair) (s .status) (s .ack) (s .ackOwed) (s .sent) (s .uack) (s .uackOwed) (s .update)
   unfolding seenOf
   phased-as n h = rw h
 
@@ -159,7 +160,7 @@ module _ (m : State) (w : Unbroken m) (a : ℕ) (ha : a < m .actors) (some : que
       record {
         taken = rw (lt-leb (m .actors) a ha, ne-eqb (queue m a .len) 0 some, eq-eqb (view m v .phase) 1 h);
         lower = total-falls m (preChecked m a) refl v hv _ _ (phased-as 1 h) (seen-view m w v hv x) (view-far m w v hv x)
-            (preCheck-lowers _ (s .repair) (s .status) (s .uack) (s .update) (s .changed) (s .ack) (s .sent));
+            (preCheck-lowers _ (s .repair) (s .status) (s .uack) (s .uackOwed) (s .update) (s .changed) (s .ack) (s .ackOwed) (s .sent));
         up = refl;
         stores = refl;
         made = refl;
@@ -171,12 +172,12 @@ module _ (m : State) (w : Unbroken m) (a : ℕ) (ha : a < m .actors) (some : que
     sendRecord-good h =
         let x = phased 3 (view m v) in
         let c = more (recordCopies m (view m v .store) v) in
-        let after : seenOf (recordSent m a) v ≡ seen 3 (s .changed) (s .repair) (s .status) (s .ack) true (s .uack) (s .update)
+        let after : seenOf (recordSent m a) v ≡ seen 3 (s .changed) (s .repair) (s .status) (s .ack) (s .ackOwed) true (s .uack) (s .uackOwed) (s .update)
         = seen-record m w v hv x c at ∙ rw (some-more (recordCopies m (view m v .store) v)) in
         record {
           taken = rw (lt-leb (m .actors) a ha, ne-eqb (queue m a .len) 0 some, eq-eqb (view m v .phase) 2 h);
           lower = total-falls m (recordSent m a) refl v hv _ _ (phased-as 2 h) after (record-far m w v hv x c at)
-              (sendRecord-lowers _ (s .repair) (s .status) (s .uack) (s .update) (s .changed) (s .ack) (s .sent));
+              (sendRecord-lowers _ (s .repair) (s .status) (s .uack) (s .uackOwed) (s .update) (s .changed) (s .ack) (s .ackOwed) (s .sent));
           up = refl;
           stores = refl;
           made = refl;
@@ -188,13 +189,13 @@ module _ (m : State) (w : Unbroken m) (a : ℕ) (ha : a < m .actors) (some : que
         let x = phased 5 (view m v) in
         let r = askedRepair (repair m v) (view m v) in
         let idle : repair m v .flying ≡ false = settled-only (repair m v .flying) refl in
-        let after : seenOf (postChecked m a) v ≡ seen 5 (s .changed) (s .changed) (s .status) (s .ack) (s .sent) (s .uack) (s .update)
+        let after : seenOf (postChecked m a) v ≡ seen 5 (s .changed) (s .changed) (s .status) (s .ack) (s .ackOwed) (s .sent) (s .uack) (s .uackOwed) (s .update)
         = rw (getD-set-same (m .views) v x noView (inViews m w v hv), getD-set-same (m .repairs) v r noRepair (omega (arith, w .sized .repairs, w .made16)), asked-flies (repair m v) (view m v) idle) in
         record {
           taken = rw (lt-leb (m .actors) a ha, ne-eqb (queue m a .len) 0 some, eq-eqb (view m v .phase) 4 h);
           lower = total-falls m (postChecked m a) refl v hv _ _ (phased-as 4 h) after
               (λ u l n. rw (getD-set-other (m .views) v u x noView n, getD-set-other (m .repairs) v u r noRepair n))
-              (postCheck-lowers _ (s .repair) (s .status) (s .uack) (s .update) (s .changed) (s .ack) (s .sent));
+              (postCheck-lowers _ (s .repair) (s .status) (s .uack) (s .uackOwed) (s .update) (s .changed) (s .ack) (s .ackOwed) (s .sent));
           up = refl;
           stores = refl;
           made = refl;
@@ -207,15 +208,15 @@ module _ (m : State) (w : Unbroken m) (a : ℕ) (ha : a < m .actors) (some : que
     -- phase 3: the spare store, the ack and the record
     module _ (h : view m v .phase ≡ 3) where
       pub timeout-good : (q : ℕ) → q < m .stores → bit (list m a) q ≡ true → view m v .store ≢ q
-          → eqb (ackCopies m (view m v .store) v) 0 ≡ true → eqb (recordCopies m (view m v .store) v) 0 ≡ true → Lowers m (Timeout a q)
+          → eqb (ackCopies m (view m v .store) v) 0 ≡ true → owesAck m (view m v .store) v ≡ false → eqb (recordCopies m (view m v .store) v) 0 ≡ true → Lowers m (Timeout a q)
       unfolding timeoutNo timedOut seenOf
-      timeout-good q hq listed other noAck noRecord =
+      timeout-good q hq listed other noAck notOwed noRecord =
           let x = timedView q (view m v) in
-          let before : s ≡ seen 3 (s .changed) (s .repair) (s .status) false false (s .uack) (s .update) = rw (h, noAck, noRecord) in
+          let before : s ≡ seen 3 (s .changed) (s .repair) (s .status) false false false (s .uack) (s .uackOwed) (s .update) = rw (h, noAck, notOwed, noRecord) in
           record {
             taken = rw (lt-leb (m .actors) a ha, lt-leb (m .stores) q hq, ne-eqb (queue m a .len) 0 some, eq-eqb (view m v .phase) 3 h, listed, ne-eqb (view m v .store) q other);
             lower = total-falls m (timedOut m a q) refl v hv _ _ before (seen-view m w v hv x) (view-far m w v hv x)
-                (rw (ne-eqb (view m v .store) q other) (timeout-lowers (seenOf m (opposite v)) (s .repair) (s .status) (s .uack) (s .update) (s .changed) (not (eqb (ackCopies m q v) 0)) (not (eqb (recordCopies m q v) 0))));
+                (rw (ne-eqb (view m v .store) q other) (timeout-lowers (seenOf m (opposite v)) (s .repair) (s .status) (s .uack) (s .uackOwed) (s .update) (s .changed) (not (eqb (ackCopies m q v) 0)) (owesAck m q v) (not (eqb (recordCopies m q v) 0))));
             up = refl;
             stores = refl;
             made = refl;
@@ -232,37 +233,47 @@ module _ (m : State) (w : Unbroken m) (a : ℕ) (ha : a < m .actors) (some : que
           let x = phased 4 (view m v) in
           let c = ackCopies m (view m v .store) v - 1 in
           let e = acked own in
-          let before : s ≡ seen 3 (s .changed) (s .repair) (s .status) true (s .sent) (s .uack) (s .update) = rw (h, there) in
+          let before : s ≡ seen 3 (s .changed) (s .repair) (s .status) true (s .ackOwed) (s .sent) (s .uack) (s .uackOwed) (s .update) = rw (h, there) in
           record {
             taken = rw (lt-leb (m .stores) (view m v .store) (inStores (omega arith)), lt-leb (m .made) (keyOf v) (omega arith), lt-leb 2 (roleOf v) (omega arith), same-number v, there);
             lower = rw e (total-falls m (withAckCopies (withView m v x) (x .store) v c) refl v hv _ _ before (seen-ack m w v hv x c at) (ack-far m w v hv x c at)
-                (takeAck-lowers _ (s .repair) (s .status) (s .uack) (s .update) (s .changed) (s .sent) _));
+                (takeAck-lowers _ (s .repair) (s .status) (s .uack) (s .uackOwed) (s .update) (s .changed) (s .ackOwed) (s .sent) _));
             up = ap allUp e;
             stores = ap (λ (n : State). n .stores) e;
             made = ap (λ (n : State). n .made) e;
           }
 
-      pub takeRecord-good : isUp m (view m v .store) ≡ true → eqb (ackCopies m (view m v .store) v) 0 ≡ true → eqb (recordCopies m (view m v .store) v) 0 ≡ false
+      pub takeRecord-good : isUp m (view m v .store) ≡ true → eqb (ackCopies m (view m v .store) v) 0 ≡ true → owesAck m (view m v .store) v ≡ false → eqb (recordCopies m (view m v .store) v) 0 ≡ false
           → Lowers m (TakeRecord (view m v .store) (keyOf v) (roleOf v))
       unfolding takeRecordNo recordTaken seenOf
-      takeRecord-good up noAck there =
+      takeRecord-good up noAck notOwed there =
           let p = view m v .store in
           let n = recordTaken m p (keyOf v) (roleOf v) in
           let c = recordCopies m p v - 1 in
-          let d = more (ackCopies m p v) in
+          let x = takenIn (shelf m p) v (view m v) in
           let inRecords : place p v < length (m .records) = omega (arith, w .sized .records, w .made16) in
-          let inAcks : place p v < length (m .acks) = omega (arith, w .sized .acks, w .made16) in
-          let before : s ≡ seen 3 (s .changed) (s .repair) (s .status) false true (s .uack) (s .update) = rw (h, noAck, there) in
-          let after : seenOf n v ≡ seen 3 (s .changed) (s .repair) (s .status) true (not (eqb c 0)) (s .uack) (s .update)
-          = rw (same-number v, getD-set-same (m .records) (place p v) c 0 inRecords, getD-set-same (m .acks) (place p v) d 0 inAcks, some-more (ackCopies m p v), h) in
+          let before : s ≡ seen 3 (s .changed) (s .repair) (s .status) false false true (s .uack) (s .uackOwed) (s .update) = rw (h, noAck, notOwed, there) in
+          let after : seenOf n v ≡ seen 3 (s .changed) (s .repair) (s .status) false true (not (eqb c 0)) (s .uack) (s .uackOwed) (s .update)
+          = rw (
+            same-number v,
+            getD-set-same (m .records) (place p v) c 0 inRecords,
+            owing-now (m .shelves) p v x (λ t. t .acksowed) refl (w .sized .shelves) at,
+            shelf-left (m .shelves) p x (λ t. bit (t .uacksowed) v) refl (entry m v .destination),
+            noAck,
+            h,
+          ) in
           record {
             taken = rw (lt-leb (m .stores) p (inStores (omega arith)), lt-leb (m .made) (keyOf v) (omega arith), lt-leb 2 (roleOf v) (omega arith), same-number v, up, there);
             lower = total-falls m n refl v hv _ _ before after
                 (λ u l n.
-                let o = place-other p v (view m u .store) u (made-32 m w v hv) (made-32 m w u l) n in
-                rw (same-number v, getD-set-other (m .records) (place p v) (place (view m u .store) u) c 0 o, getD-set-other (m .acks) (place p v) (place (view m u .store) u) d 0 o))
-                (takeRecord-lowers _ (s .repair) (s .status) (s .uack) (s .update) (s .changed) _);
-            up = linked-all (m .shelves) p (number (keyOf v) (roleOf v)) _ (λ q b. leb (m .stores) q || b);
+                rw (
+                  same-number v,
+                  getD-set-other (m .records) (place p v) (place (view m u .store) u) c 0 (place-other p v (view m u .store) u (made-32 m w v hv) (made-32 m w u l) n),
+                  owing-far (m .shelves) p v x (λ t. t .acksowed) refl (view m u .store) u n,
+                  shelf-left (m .shelves) p x (λ t. bit (t .uacksowed) u) refl (entry m u .destination),
+                ))
+                (takeRecord-lowers _ (s .repair) (s .status) (s .uack) (s .uackOwed) (s .update) (s .changed) _);
+            up = shelf-unseen (m .shelves) p (takenIn (shelf m p) (number (keyOf v) (roleOf v)) (view m (number (keyOf v) (roleOf v)))) (upIn (m .stores)) (λ q. refl);
             stores = refl;
             made = refl;
           }

@@ -1,8 +1,11 @@
 pub mod Lowest
 pub mod StepsLeft
+pub mod Noted
 pub mod Total
+pub mod Owing
 pub mod Jobs
 pub mod Entries
+pub mod Checkpoints
 pub mod Spare
 pub mod Turns
 pub mod Courses

@@ -10,7 +10,7 @@ use lib.Dec.{eqb, ltb, leb}
 use lib.ListN.{getD}
 use borrow.Author.Tests.{lt-leb, ltb-true, ltb-false, eqb-true, eqb-false, not-true, not-false}
 use Rattle.protocol.specs.Words.{pick, bit, times}
-use Rattle.protocol.specs.Slots.{number, noStore, statusNumber, isUp, list, queue, view, repair, entry, recordCopies, ackCopies, updateCopies, uackCopies}
+use Rattle.protocol.specs.Slots.{number, noStore, statusNumber, isUp, list, queue, view, repair, entry, recordCopies, ackCopies, updateCopies, uackCopies, owesAck, owesUack}
 use Rattle.unbroken.specs.Unbroken.{Unbroken}
 use Rattle.protocol.specs.Closed.{closedOf, restsOf}
 use Rattle.protocol.specs.declared.State.{State}
@@ -18,7 +18,7 @@ use Rattle.unbroken.proofs.Laws.Tests.{and-left, and-right, and-both, or-else, 
 use Rattle.unbroken.proofs.Laws.Every.{all-at}
 use Rattle.unbroken.proofs.Laws.Room.{stores8, actors8, legal-actor, made-view, made-32, sender-made}
 use Rattle.protocol.specs.Rule.{head}
-use Rattle.protocol.specs.declared.Step.the-variants.{Receive, PreCheck, SendRecord, Timeout, TakeRecord, TakeAck, PostCheck, TakeRepair, SendUpdate, TakeUpdate, TakeUack, Expire}
+use Rattle.protocol.specs.declared.Step.the-variants.{Receive, PreCheck, SendRecord, Timeout, TakeRecord, TakeAck, PostCheck, TakeRepair, SendUpdate, TakeUpdate, TakeUack, Expire, Checkpoint}
 use Rattle.protocol.specs.Drain.{keyOf, roleOf, unreceived, busy, spare, jobStep, repairDue, unfinished, entryDue, entryStep, turnOf, upIn, allUp}
 use Rattle.protocol.specs.declared.Turn.{Turn}
 use Rattle.protocol.specs.declared.Turn.the-variants.{Take, Rest}
@@ -27,6 +27,7 @@ use Rattle.drains.proofs.StepsLeft.{repairToCome}
 use Rattle.drains.proofs.Total.{seenOf, opposite}
 use Rattle.drains.proofs.Jobs.{Lowers, receive-good, preCheck-good, sendRecord-good, postCheck-good, timeout-good, takeAck-good, takeRecord-good}
 use Rattle.drains.proofs.Entries.{to-send, waiting, takeRepair-good, sendUpdate-good, takeUack-good, takeUpdate-good, expire-good}
+use Rattle.drains.proofs.Checkpoints.{ackOwed-good, uackOwed-good}
 use Rattle.drains.proofs.Spare.{spare-there}
 
 -- nothing applies: every view made is settled, with no repair in flight and no entry that is to-send or waiting
@@ -96,7 +97,7 @@ module _ (m : State) (w : Unbroken m) where
 
       job-lowers : Lowers m (jobStep m a)
       unfolding jobStep
-      job-lowers = go (eqb (view m v .phase) 1) (eqb (view m v .phase) 2) (eqb (view m v .phase) 4) (eqb (ackCopies m p v) 0) (eqb (recordCopies m p v) 0) refl refl refl refl refl
+      job-lowers = go (eqb (view m v .phase) 1) (eqb (view m v .phase) 2) (eqb (view m v .phase) 4) (eqb (ackCopies m p v) 0) (owesAck m p v) (eqb (recordCopies m p v) 0) refl refl refl refl refl refl
         where
           p : ℕ
           p = view m v .store
@@ -113,19 +114,20 @@ module _ (m : State) (w : Unbroken m) where
           chosen : bit (list m a) (spare m a) && not (eqb p (spare m a)) ≡ true
           chosen = finds (m .stores) (λ q. bit (list m a) q && not (eqb p q)) .holds there
 
-          go : (b c d e f : Bool) → eqb (view m v .phase) 1 ≡ b → eqb (view m v .phase) 2 ≡ c → eqb (view m v .phase) 4 ≡ d → eqb (ackCopies m p v) 0 ≡ e → eqb (recordCopies m p v) 0 ≡ f
+          go : (b c d e o f : Bool) → eqb (view m v .phase) 1 ≡ b → eqb (view m v .phase) 2 ≡ c → eqb (view m v .phase) 4 ≡ d → eqb (ackCopies m p v) 0 ≡ e → owesAck m p v ≡ o → eqb (recordCopies m p v) 0 ≡ f
               → Lowers m (pick b (PreCheck a) (pick c (SendRecord a) (pick d (PostCheck a)
-              (pick (not e) (TakeAck p (keyOf v) (roleOf v)) (pick (not f) (TakeRecord p (keyOf v) (roleOf v)) (Timeout a (spare m a)))))))
-          go true c d e f eb ec ed ee ef = preCheck-good m w a ha busy hv (eqb-true (view m v .phase) 1 eb)
-          go false true d e f eb ec ed ee ef = sendRecord-good m w a ha busy hv few (eqb-true (view m v .phase) 2 ec)
-          go false false true e f eb ec ed ee ef = postCheck-good m w a ha busy hv few (eqb-true (view m v .phase) 4 ed)
-          go false false false false f eb ec ed ee ef = takeAck-good m w a ha busy hv few (third eb ec ed) (w .queueAt a in8 .standsOwn 0 (omega arith)) ee
-          go false false false true false eb ec ed ee ef = takeRecord-good m w a ha busy hv few (third eb ec ed) (isUp-at p at) ee ef
-          go false false false true true eb ec ed ee ef =
+              (pick (not e) (TakeAck p (keyOf v) (roleOf v)) (pick o (Checkpoint p) (pick (not f) (TakeRecord p (keyOf v) (roleOf v)) (Timeout a (spare m a))))))))
+          go true c d e o f eb ec ed ee eo ef = preCheck-good m w a ha busy hv (eqb-true (view m v .phase) 1 eb)
+          go false true d e o f eb ec ed ee eo ef = sendRecord-good m w a ha busy hv few (eqb-true (view m v .phase) 2 ec)
+          go false false true e o f eb ec ed ee eo ef = postCheck-good m w a ha busy hv few (eqb-true (view m v .phase) 4 ed)
+          go false false false false o f eb ec ed ee eo ef = takeAck-good m w a ha busy hv few (third eb ec ed) (w .queueAt a in8 .standsOwn 0 (omega arith)) ee
+          go false false false true true f eb ec ed ee eo ef = ackOwed-good m w v hv at (third eb ec ed) (isUp-at p at) ee eo
+          go false false false true false false eb ec ed ee eo ef = takeRecord-good m w a ha busy hv few (third eb ec ed) (isUp-at p at) ee eo ef
+          go false false false true false true eb ec ed ee eo ef =
               timeout-good m w a ha busy hv few (third eb ec ed) (spare m a) there
               (and-left (bit (list m a) (spare m a)) (not (eqb p (spare m a))) chosen)
               (eqb-false p (spare m a) (not-true (eqb p (spare m a)) (and-right (bit (list m a) (spare m a)) (not (eqb p (spare m a))) chosen)))
-              ee ef
+              ee eo ef
 
     -- (d) an entry, when all views are settled and no repair is in flight
     module _ (settled : (u : ℕ) → u < m .made * 2 → view m u .phase ≡ 5) (idle : (u : ℕ) → u < m .made * 2 → repair m u .flying ≡ false)
@@ -138,7 +140,7 @@ module _ (m : State) (w : Unbroken m) where
 
       entry-lowers : Lowers m (entryStep m v)
       unfolding entryStep
-      entry-lowers = go (eqb n 1) (eqb (uackCopies m p v) 0) (eqb (updateCopies m p v) 0) refl refl refl
+      entry-lowers = go (eqb n 1) (eqb (uackCopies m p v) 0) (owesUack m p v) (eqb (updateCopies m p v) 0) refl refl refl refl
         where
           n : ℕ
           n = statusNumber (entry m v .status)
@@ -152,21 +154,26 @@ module _ (m : State) (w : Unbroken m) where
           at′ : 1 ≤ n → p < m .stores
           at′ h = w .entryAt v (omega (arith, w .made16)) .destinationIn h
 
-          go : (b c d : Bool) → eqb n 1 ≡ b → eqb (uackCopies m p v) 0 ≡ c → eqb (updateCopies m p v) 0 ≡ d
-              → Lowers m (pick b (SendUpdate (keyOf v) (roleOf v)) (pick (not c) (TakeUack p (keyOf v) (roleOf v)) (pick (not d) (TakeUpdate p (keyOf v) (roleOf v)) (Expire (keyOf v) (roleOf v)))))
-          go true c d eb ec ed =
+          go : (b c o d : Bool) → eqb n 1 ≡ b → eqb (uackCopies m p v) 0 ≡ c → owesUack m p v ≡ o → eqb (updateCopies m p v) 0 ≡ d
+              → Lowers m (pick b (SendUpdate (keyOf v) (roleOf v))
+              (pick (not c) (TakeUack p (keyOf v) (roleOf v)) (pick o (Checkpoint p) (pick (not d) (TakeUpdate p (keyOf v) (roleOf v)) (Expire (keyOf v) (roleOf v))))))
+          go true c o d eb ec eo ed =
               let h = eqb-true n 1 eb in
               sendUpdate-good m w v hv (settled v hv) (idle v hv) nothing-to-come (at′ (omega arith)) (stores8 m w) (to-send (entry m v .status) h)
-          go false false d eb ec ed =
+          go false false o d eb ec eo ed =
               let h = second eb in
               takeUack-good m w v hv (settled v hv) (idle v hv) nothing-to-come (at′ (omega arith)) (stores8 m w) (waiting (entry m v .status) h) ec
-          go false true false eb ec ed =
+          go false true true d eb ec eo ed =
               let h = second eb in
               let l = at′ (omega arith) in
-              takeUpdate-good m w v hv (settled v hv) (idle v hv) nothing-to-come l (stores8 m w) (waiting (entry m v .status) h) (isUp-at p l) ec ed
-          go false true true eb ec ed =
+              uackOwed-good m w v hv l (settled v hv) (idle v hv) nothing-to-come (waiting (entry m v .status) h) (isUp-at p l) ec eo
+          go false true false false eb ec eo ed =
               let h = second eb in
-              expire-good m w v hv (settled v hv) (idle v hv) nothing-to-come (at′ (omega arith)) (stores8 m w) (waiting (entry m v .status) h) ec ed
+              let l = at′ (omega arith) in
+              takeUpdate-good m w v hv (settled v hv) (idle v hv) nothing-to-come l (stores8 m w) (waiting (entry m v .status) h) (isUp-at p l) ec eo ed
+          go false true false true eb ec eo ed =
+              let h = second eb in
+              expire-good m w v hv (settled v hv) (idle v hv) nothing-to-come (at′ (omega arith)) (stores8 m w) (waiting (entry m v .status) h) ec eo ed
 
     -- the turns from (d) on, and from (c) on
     abbrev entryTurn : Turn

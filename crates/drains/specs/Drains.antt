@@ -1,5 +1,5 @@
 -- The laws of the drain, for every unbroken machine with all stores up: it takes each of its steps, it ends because nothing
--- applies and within 18 steps for an interaction, it closes every interaction made, and a second drain has nothing to do.
+-- applies and within 22 steps for an interaction, it closes every interaction made, and a second drain has nothing to do.
 use Prim.Native.Nat.{ℕ, _*_, _≤_, _<_}
 use mathlib.Core.Path.{_≡_}
 use mathlib.Core.Bool.{true, false}
@@ -32,19 +32,19 @@ TakesEachStep = (m : State) (s : Step) → Drainable m → turnOf m ≡ Take s �
 
 -- the drain's steps, and the machine after them
 abbrev pub stepsOf : State → List Step
-stepsOf m = course (m .made * 18) m .steps
+stepsOf m = course (m .made * 22) m .steps
 
 abbrev pub endOf : State → State
-endOf m = course (m .made * 18) m .state
+endOf m = course (m .made * 22) m .state
 
 pub record Ends (m : State) : Type 0 where
   -- the drain is taken, and its count is that of its steps
   pub result : drainOf m ≡ record { state = endOf m; answer = 0; count = length (stepsOf m) }
   -- it ends because nothing applies, and not because of the stop: with more room it would do the same
   pub rests : turnOf (endOf m) ≡ Rest
-  pub unstopped : (n : ℕ) → m .made * 18 ≤ n → course n m ≡ course (m .made * 18) m
-  -- at most 18 steps for each interaction
-  pub count : length (stepsOf m) ≤ m .made * 18
+  pub unstopped : (n : ℕ) → m .made * 22 ≤ n → course n m ≡ course (m .made * 22) m
+  -- at most 22 steps for each interaction
+  pub count : length (stepsOf m) ≤ m .made * 22
   -- its end is the run of its steps, and every one of them is answered 0
   pub run : endOf m ≡ ran m (stepsOf m)
   pub taken : answers m (stepsOf m) ≡ replicate (length (stepsOf m)) 0
@@ -60,6 +60,6 @@ DrainEnds = (m : State) → Drainable m → Ends m
 abbrev pub DrainsOnce : Type 0
 DrainsOnce = (m : State) → Drainable m → drainOf (drainOf m .state) ≡ record { state = drainOf m .state; answer = 0; count = 0 }
 
--- .. and of any machine it takes no more than 18 steps for each interaction, since it stops there
+-- .. and of any machine it takes no more than 22 steps for each interaction, since it stops there
 abbrev pub CountIsFew : Type 0
-CountIsFew = (m : State) → drainOf m .count ≤ m .made * 18
+CountIsFew = (m : State) → drainOf m .count ≤ m .made * 22

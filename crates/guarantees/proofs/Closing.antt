@@ -7,7 +7,7 @@ use native.Mathlib.Omega.{arith}
 use native.Mathlib.Decide.{ℕ-discrete}
 use borrow.Author.Tests.{eq-eqb, ne-eqb, eqb-true, eqb-false, not-true}
 use lib.Dec.{eqb}
-use Rattle.protocol.specs.Slots.{number, statusNumber, view, repair, entry, viewlink}
+use Rattle.protocol.specs.Slots.{number, statusNumber, view, repair, entry, lastingViewlink}
 use Rattle.protocol.specs.Closed.{restsOf, closedOf}
 use Rattle.unbroken.specs.Unbroken.{Unbroken}
 use Rattle.protocol.specs.declared.State.{State}
@@ -51,12 +51,12 @@ pub closed-to : (m : State) (k : ℕ) → Rests m (number k 0) → Rests m (numb
 unfolding closedOf
 closed-to m k a b = rw (rests-to m (number k 0) a, rests-to m (number k 1) b)
 
--- at the store of the view `me`: its link names the store of the other
+-- at the store of the view `me`: its checkpointed link names the store of the other
 local : {me ot : Job} {mc oc : Cell} {sent : ℕ} → Good me mc ot oc sent (me .store) → Good ot oc me mc sent (me .store)
-    → me .phase ≡ 5 → ot .phase ≡ 5 → me .flying ≡ 0 → ot .flying ≡ 0 → (0 < ot .status → ot .status ≡ 3) → mc .link ≡ suc (ot .store)
+    → me .phase ≡ 5 → ot .phase ≡ 5 → me .flying ≡ 0 → ot .flying ≡ 0 → (0 < ot .status → ot .status ≡ 3) → mc .saved ≡ suc (ot .store)
 local {me} {ot} {mc} {oc} a b r s x y t = go (ℕ-discrete (ot .status) 0) (ℕ-discrete (me .status) 0)
   where
-    k : 0 < mc .link
+    k : 0 < mc .saved
     k = a .keptLinked (omega arith) refl
 
     unchanged : me .status ≡ 0 → me .changed ≡ 0
@@ -65,14 +65,14 @@ local {me} {ot} {mc} {oc} a b r s x y t = go (ℕ-discrete (ot .status) 0) (ℕ-
     unmoved : ot .status ≡ 0 → ot .changed ≡ 0
     unmoved e = none (λ c. omega (arith, b .asked s (omega (arith, b .changedIn)) y))
 
-    go : Dec (ot .status ≡ 0) → Dec (me .status ≡ 0) → mc .link ≡ suc (ot .store)
+    go : Dec (ot .status ≡ 0) → Dec (me .status ≡ 0) → mc .saved ≡ suc (ot .store)
     -- the other view has no entry: it never moved
-    go (yes e) d = omega (arith, a .linkFirst e k, b .first (unmoved e) (omega arith) (omega arith))
+    go (yes e) d = omega (arith, a .savedFirst e k, b .first (unmoved e) (omega arith) (omega arith))
     -- it has one, and this view none: its destination is this view's first store, which is the current one
     go (no f) (yes e) = b .finished (t (omega arith)) (omega (arith, b .alone (omega arith) e, a .first (unchanged e) (omega arith) (omega arith)))
     go (no f) (no g) = b .finished (t (omega arith)) (b .paired (omega arith) (omega arith))
 
-pub accurate : (m : State) → Unbroken m → Everywhere m → (k r : ℕ) → r < 2 → Rests m (number k r) → Rests m (number k (1 - r)) → viewlink m (view m (number k r) .store) (number k r) ≡ view m (number k (1 - r)) .store + 1
+pub accurate : (m : State) → Unbroken m → Everywhere m → (k r : ℕ) → r < 2 → Rests m (number k r) → Rests m (number k (1 - r)) → lastingViewlink m (view m (number k r) .store) (number k r) ≡ view m (number k (1 - r)) .store + 1
 unfolding Everywhere
 accurate m u inv k r hr a b =
     let hv : number k r < m .made * 2 = made-view m u (number k r) (omega (arith, a .phase)) in

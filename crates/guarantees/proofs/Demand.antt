@@ -7,26 +7,29 @@ use native.Mathlib.Omega.{arith}
 use native.Mathlib.Decide.{ℕ-discrete, decLt}
 use lib.ListN.{length, getD}
 use Rattle.protocol.specs.Words.{bit, one}
-use Rattle.protocol.specs.Slots.{home, queue, standing, number, view, contents, causeLinks}
+use Rattle.protocol.specs.Slots.{home, queue, standing, number, view, causeLinks, isLasting}
 use Rattle.protocol.specs.Setup.{freshWith}
 use Rattle.protocol.specs.Closed.{closedOf}
 use Rattle.unbroken.specs.Unbroken.{Unbroken}
 use Rattle.protocol.specs.declared.State.{State}
 use Rattle.protocol.specs.declared.Contents.{Contents}
 use Rattle.protocol.specs.declared.Setup.{Setup}
-use Rattle.unbroken.proofs.Laws.{unbroken, fresh-unbroken}
+use Rattle.unbroken.proofs.Laws.{unbroken, fresh-unbroken, fresh-blank}
+use Rattle.unbroken.proofs.Laws.Has.{has-kept}
 use Rattle.unbroken.proofs.Laws.Room.{stores8, made-view}
-use Rattle.keeps.proofs.Onward.{step-onward, closed-stays}
+use Rattle.keeps.specs.Lasting.{Lasts}
+use Rattle.keeps.proofs.Onward.{closed-stays}
+use Rattle.keeps.proofs.Lasting.{blank-backed, step-lasts, lasts-still, lasts-after}
 use Rattle.protocol.specs.Step.{stepOf}
 use Rattle.protocol.specs.declared.Step.{Step}
 use Rattle.protocol.specs.Run.{ran, freshOf}
 use Rattle.reads.proofs.Some.{ran-append}
 use Rattle.guarantees.specs.Acknowledged.{Legal, after, accepted, acknowledged, AckedBy}
 use Rattle.guarantees.specs.Guarantees.{OneAcknowledgement, Holds, KeptForEver, CauseLinks, StaysClosed, ViewLinks}
-use Rattle.guarantees.proofs.Whole.{Everywhere, Here}
+use Rattle.guarantees.proofs.Whole.{Everywhere}
 use Rattle.guarantees.proofs.Turns.{Turn}
 use Rattle.guarantees.proofs.Causes.{Cause, turn-actor, turn-word, turn-causes, turn-links}
-use Rattle.guarantees.proofs.Rules.{Homes}
+use Rattle.guarantees.proofs.Rules.{Homes, here}
 use Rattle.guarantees.proofs.Reached.{Reached, Causes}
 use Rattle.guarantees.proofs.Steps.{Move, turns-to, unmade, step-reached, moves}
 use Rattle.guarantees.proofs.Acks.{Ack, past, now, yet, ack, run-reached, stays-past, comes-to}
@@ -41,6 +44,7 @@ fresh-reached u l =
       everywhere = λ k r p hk hr hp. absurd (let z : ⊥ = omega arith in z);
       homes = λ k hk. absurd (let z : ⊥ = omega arith in z);
       causes = λ k j hk hj b. absurd (let z : ⊥ = omega arith in z);
+      backed = blank-backed (freshOf u) (fresh-blank (u .stores) (u .actors) (u .homes) (u .lists));
     }
 
 fresh-phase : (u : Setup) → Legal u → (v : ℕ) → view (freshOf u) v .phase ≡ 0
@@ -54,20 +58,11 @@ fresh-phase u l v = go (ℕ-discrete (view (freshOf u) v .phase) 0)
 same-head : (a b : ℕ) → _≡_ {A = List ℕ} (a ∷ []) (b ∷ []) → a ≡ b
 same-head a b e = cc
 
--- what a run keeps of what a store holds
-held-run : (m : State) → Reached m → (ss : List Step) (p v : ℕ) → p < 8 → v < 32 → contents m p v .held ≡ true → contents (ran m ss) p v ≡ contents m p v
+-- what a run keeps of what lasts in the stores
+pub lasts-run : (m : State) → Reached m → (ss : List Step) → Lasts m (ran m ss)
 unfolding ran
-held-run m c [] p v hp hv h = refl
-held-run m c (s ∷ ss) p v hp hv h =
-    let e = step-onward m s .held p v hp hv h in
-    held-run (stepOf m s .state) (step-reached m c s) ss p v hp hv (ap (λ (x : Contents). x .held) e ∙ h) ∙ e
-
-links-run : (m : State) → Reached m → (ss : List Step) (p k : ℕ) → p < 8 → k < 16 → contents m p (number k 0) .held ≡ true → causeLinks (ran m ss) p k ≡ causeLinks m p k
-unfolding ran
-links-run m c [] p k hp hk h = refl
-links-run m c (s ∷ ss) p k hp hk h =
-    let e = step-onward m s .held p (number k 0) hp (omega arith) h in
-    links-run (stepOf m s .state) (step-reached m c s) ss p k hp hk (ap (λ (x : Contents). x .held) e ∙ h) ∙ step-onward m s .links p k hp hk h
+lasts-run m c [] = lasts-still m
+lasts-run m c (s ∷ ss) = lasts-after m (stepOf m s .state) (ran (stepOf m s .state) ss) (step-lasts m s (c .backed)) (lasts-run (stepOf m s .state) (step-reached m c s) ss)
 
 closed-run : (m : State) → Reached m → (ss : List Step) (k : ℕ) → closedOf m k ≡ true → closedOf (ran m ss) k ≡ true
 unfolding ran
@@ -75,15 +70,17 @@ closed-run m c [] k h = h
 closed-run m c (s ∷ ss) k h = closed-run (stepOf m s .state) (step-reached m c s) ss k (closed-stays m s k h)
 
 -- an accepting step, as the turn that it is
-record Accepting (m : State) (s : Step) (v p : ℕ) : Type 0 where
-  made : v < m .made * 2
-  phase : view m v .phase ≡ 3
-  store : view m v .store ≡ p
-  turn : Turn m s v (view (stepOf m s .state) v)
-  next : view (stepOf m s .state) v .phase ≡ 4
-  there : view (stepOf m s .state) v .store ≡ p
+pub record Accepting (m : State) (s : Step) (v p : ℕ) : Type 0 where
+  pub made : v < m .made * 2
+  pub fits : v < 32
+  pub low : p < 8
+  pub phase : view m v .phase ≡ 3
+  pub store : view m v .store ≡ p
+  pub turn : Turn m s v (view (stepOf m s .state) v)
+  pub next : view (stepOf m s .state) v .phase ≡ 4
+  pub there : view (stepOf m s .state) v .store ≡ p
 
-accepts : (m : State) → Reached m → (s : Step) (v p : ℕ) → accepted m s v ≡ p ∷ [] → Accepting m s v p
+pub accepts : (m : State) → Reached m → (s : Step) (v p : ℕ) → accepted m s v ≡ p ∷ [] → Accepting m s v p
 accepts m c s v p e = go (ack m c s v) (moves m c s v)
   where
     u : Unbroken m
@@ -98,22 +95,23 @@ accepts m c s v p e = go (ack m c s v) (moves m c s v)
     go (now q k r x y a b d f g) (unmade z) = absurd (omega (arith, z .before))
     go (now q k r x y a b d f g) (turns-to t) =
         let h : q ≡ p = same-head q p (sym a ∙ e) in
-        record { made = made-view m u v (omega arith); phase = b; store = d ∙ h; turn = t; next = f; there = g ∙ h }
+        let made : v < m .made * 2 = made-view m u v (omega arith) in
+        let fits : v < 32 = omega (arith, u .made16) in
+        record { made = made; fits = fits; low = omega (arith, stores8 m u, u .viewAt v fits .storeIn (omega arith)); phase = b; store = d ∙ h; turn = t; next = f; there = g ∙ h }
 
-flag : (b : Bool) → one b ≡ 1 → b ≡ true
+pub flag : (b : Bool) → one b ≡ 1 → b ≡ true
 flag true e = refl
 flag false e = absurd (let z : ⊥ = omega arith in z)
 
--- a view past its ack: its store holds what its record says
+-- a view past its ack: the checkpointed state of its store holds what its record says
 pub record There (m : State) (k r p : ℕ) : Type 0 where
   pub made : k < m .made
   pub past : 4 ≤ view m (number k r) .phase
   pub store : view m (number k r) .store ≡ p
   pub low : p < 8
-  pub held : contents m p (number k r) .held ≡ true
+  pub held : isLasting m p (number k r) ≡ true
 
 pub there : (m : State) → Reached m → (k r : ℕ) → r < 2 → 4 ≤ view m (number k r) .phase → There m k r (view m (number k r) .store)
-unfolding Everywhere
 there m c k r hr h =
     let x = unbroken m (c .fine) in
     let hv : number k r < m .made * 2 = made-view m x (number k r) (omega arith) in
@@ -123,11 +121,8 @@ there m c k r hr h =
       past = h;
       store = refl;
       low = hp;
-      held = flag (contents m (view m (number k r) .store) (number k r) .held) (everywhere-at k r (view m (number k r) .store) (omega arith) hr hp .keptHeld h refl);
+      held = flag (isLasting m (view m (number k r) .store) (number k r)) (here m (x .sized) (x .made16) (c .everywhere) k r (view m (number k r) .store) (omega arith) hr hp .keptHeld h refl);
     }
-  where
-    everywhere-at : (k r p : ℕ) → k < m .made → r < 2 → p < 8 → Here m k r p
-    everywhere-at = c .everywhere
 
 module _ (u : Setup) (l : Legal u) where
   pub reached : (steps : List Step) → Reached (after u steps)
@@ -185,7 +180,6 @@ module _ (u : Setup) (l : Legal u) where
       causes-at steps = reached steps .causes
 
   kept : (steps : List Step) (step : Step) (k r p : ℕ) → r < 2 → accepted (after u steps) step (number k r) ≡ p ∷ [] → (further : List Step) → Holds (ran (stepOf (after u steps) step .state) further) p k r (view (after u steps) (number k r))
-  unfolding Everywhere
   kept steps step k r p hr e further =
       let m = after u steps in
       let n = stepOf m step .state in
@@ -195,27 +189,26 @@ module _ (u : Setup) (l : Legal u) where
       let x = unbroken m (c .fine) in
       let a = accepts m c step (number k r) p e in
       let hk : k < m .made = omega (arith, a .made) in
-      let hv : number k r < 32 = omega (arith, a .made, x .made16) in
-      let hp : p < 8 = omega (arith, stores8 m x, rw (a .store) at (x .viewAt (number k r) hv .storeIn (omega (arith, a .phase)))) in
+      let hv = a .fits in
+      let hp = a .low in
       let hn : number k r < n .made * 2 = made-view n y (number k r) (omega (arith, a .next)) in
-      let g = everywhere-at n d k r p (omega arith) hr hp in
-      let h : contents n p (number k r) .held ≡ true = flag (contents n p (number k r) .held) (g .keptHeld (omega (arith, a .next)) (a .there)) in
-      let q = held-run n d further p (number k r) hp hv h in
+      let g = here n (y .sized) (y .made16) (d .everywhere) k r p (omega arith) hr hp in
+      let h : isLasting n p (number k r) ≡ true = flag (isLasting n p (number k r)) (g .keptHeld (omega (arith, a .next)) (a .there)) in
+      let has = has-kept n p (number k r) h in
+      let on = lasts-run n d further in
+      let q = on .contents p (number k r) hp hv h in
       let f : 2 ≤ view m (number k r) .phase = omega (arith, a .phase) in
       record {
-        held = ap (λ (w : Contents). w .held) q ∙ h;
-        asserter = ap (λ (w : Contents). w .asserter) q ∙ y .contentsAt p (number k r) hp hv .sameActor h ∙ turn-actor (a .turn);
-        word = ap (λ (w : Contents). w .word) q ∙ y .contentsAt p (number k r) hp hv .sameWord h ∙ turn-word (a .turn) (omega arith);
-        causes = ap (λ (w : Contents). w .causes) q ∙ y .contentsAt p (number k r) hp hv .sameCauses h ∙ turn-causes (a .turn) (omega arith);
+        held = on .lasting p (number k r) hp hv h;
+        asserter = ap (λ (w : Contents). w .asserter) q ∙ y .contentsAt p (number k r) hp hv .sameActor has ∙ turn-actor (a .turn);
+        word = ap (λ (w : Contents). w .word) q ∙ y .contentsAt p (number k r) hp hv .sameWord has ∙ turn-word (a .turn) (omega arith);
+        causes = ap (λ (w : Contents). w .causes) q ∙ y .contentsAt p (number k r) hp hv .sameCauses has ∙ turn-causes (a .turn) (omega arith);
         links = λ z j hj.
-            let i : contents n p (number k 0) .held ≡ true = rw z at h in
-            let s : getD (causeLinks n p k) j 0 ≡ getD (view n (number k 0) .links) j 0 = y .linksAt p k hp (omega (arith, x .made16)) .sameLinks j hj i in
-            ap (λ (w : List ℕ). getD w j 0) (links-run n d further p k hp (omega (arith, x .made16)) i) ∙ s
+            let i : isLasting n p (number k 0) ≡ true = rw z at h in
+            let s : getD (causeLinks n p k) j 0 ≡ getD (view n (number k 0) .links) j 0 = y .linksAt p k hp (omega (arith, x .made16)) .sameLinks j hj (has-kept n p (number k 0) i) in
+            ap (λ (w : List ℕ). getD w j 0) (on .links p k hp (omega (arith, x .made16)) i) ∙ s
             ∙ ap (λ (w : List ℕ). getD w j 0) (subst (λ (o : ℕ). view n (number k o) .links ≡ view m (number k r) .links) z (turn-links (a .turn) f));
       }
-    where
-      everywhere-at : (n : State) → Reached n → (k r p : ℕ) → k < n .made → r < 2 → p < 8 → Here n k r p
-      everywhere-at n d = d .everywhere
 
 pub one-acknowledgement : OneAcknowledgement
 one-acknowledgement =

@@ -11,6 +11,7 @@ pub mod Steps
 pub mod Acks
 pub mod Closing
 pub mod Demand
+pub mod Lasting
 pub mod Lookup
 pub mod Sent
 pub mod Drained

@@ -7,9 +7,10 @@ use Prim.Native.Nat.{ℕ, _+_, _-_, _≤_, _<_}
 use native.Mathlib.Omega.{arith}
 use lib.ListN.{getD}
 use Rattle.protocol.specs.Words.{bit}
-use Rattle.protocol.specs.Slots.{home, queue, standing, number, view, causeLinks, viewlink}
+use Rattle.protocol.specs.Slots.{home, queue, standing, number, view, lastingCauseLinks as causeLinks, lastingViewlink as viewlink}
 use Rattle.protocol.specs.declared.State.{State}
 use Rattle.unbroken.proofs.Laws.{unbroken}
+use Rattle.unbroken.proofs.Laws.Has.{has-kept}
 use Rattle.guarantees.specs.Acknowledged.{after, AckedBy}
 use Rattle.guarantees.specs.Guarantees.{Lookup}
 use Rattle.guarantees.proofs.Causes.{Cause}
@@ -39,10 +40,10 @@ lookup =
           let y = unbroken n (c .fine) in
           let t = acked-on u l steps further k 0 p (omega arith) a in
           let hk : k < 16 = omega (arith, t .made, y .made16) in
-          let g : bit (view n (number k 0) .causes) j ≡ true = subst (λ (i : ℕ). bit i j ≡ true) (y .contentsAt p (number k 0) (t .low) (omega arith) .sameCauses (t .held)) h in
+          let g : bit (view n (number k 0) .causes) j ≡ true = subst (λ (i : ℕ). bit i j ≡ true) (y .contentsAt p (number k 0) (t .low) (omega arith) .sameCauses (has-kept n p (number k 0) (t .held))) h in
           let x = cause-at n c k j (t .made) hj g in
           let past : 2 ≤ view n (number k 0) .phase = omega (arith, t .past) in
-          let e : getD (causeLinks n p k) j 0 ≡ view n (number j 1) .store = y .linksAt p k (t .low) hk .sameLinks j hj (t .held) ∙ x .right past in
+          let e : getD (causeLinks n p k) j 0 ≡ view n (number j 1) .store = y .linksAt p k (t .low) hk .sameLinks j hj (has-kept n p (number k 0) (t .held)) ∙ x .right past in
           let late : 4 ≤ view n (number j 1) .phase = omega (arith, x .late past) in
           rw e (there n c j 1 (omega arith) late .held, soon u l (steps ++ further) (number j 1) late);
     }

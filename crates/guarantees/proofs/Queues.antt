@@ -24,9 +24,13 @@ use Rattle.protocol.specs.Send.{sent, joined}
 use Rattle.protocol.specs.Receive.{receivedOf}
 use Rattle.protocol.specs.PostCheck.{postChecked, left}
 use Rattle.protocol.specs.TakeRepair.{repairTaken}
+use Rattle.protocol.specs.Sweep.{swept}
+use Rattle.protocol.specs.Crash.{crashed}
+use Rattle.protocol.specs.Restart.{restarted}
+use Rattle.protocol.specs.Checkpoint.{checkpointed}
 use Rattle.protocol.specs.Step.{numberOf, afterOf}
 use Rattle.protocol.specs.declared.Step.{Step}
-use Rattle.keeps.specs.Change.{Change, onUp, onSend, onReceive, onHead, onSettle, onFlight, onHeld, onViewlink, onStatus, onRepair}
+use Rattle.keeps.specs.Change.{Change, onSend, onReceive, onHead, onSettle, onFlight, onTaken, onUpdated, onStatus, onRepair, onCrash, onRestart, onCheckpoint}
 use Rattle.keeps.proofs.Changes.{taken-related}
 use Rattle.keeps.proofs.Onward.{change-onward}
 use Rattle.guarantees.proofs.Heads.{Headed, headed}
@@ -51,8 +55,7 @@ left-stands : (q : Queue) → length (q .views) ≡ 16 → 0 < q .len → q .len
 left-stands q e h f = let x : q .len ≡ (q .len - 1) + 1 = omega arith in ap (λ (n : ℕ). take n (q .views)) x ∙ tail-stands (q .views) (q .len - 1) (omega arith)
 
 lines : (m n : State) → Unbroken m → Bounds m → (a : ℕ) → a < 8 → Change m n → Line m n a
-unfolding sent receivedOf postChecked repairTaken
-lines m n u b a ha (onUp p up h) = same refl
+unfolding sent receivedOf postChecked repairTaken swept crashed restarted checkpointed
 lines m n u b a ha (onSend from to own word causes t) = go (ℕ-discrete a from)
   where
     go : Dec (a ≡ from) → Line m (sent m from to own word causes) a
@@ -78,10 +81,13 @@ lines m n u b a ha (onSettle i h) = go (ℕ-discrete a i) (headed m u i 4 h)
         (rw (x, getD-set-same (m .views) (head m i) (phased 5 (headView m i)) noView (omega (arith, u .sized .views, u .made16, g .made))))
     go (no x) g = same (ap standing (getD-set-other (m .queues) i a (left (queue m i)) noQueue x))
 lines m n u b a ha (onFlight records acks updates uacks f) = same refl
-lines m n u b a ha (onHeld p k r o c) = same refl
-lines m n u b a ha (onViewlink p k v link hs hk l) = same refl
+lines m n u b a ha (onTaken p k r o c) = same refl
+lines m n u b a ha (onUpdated p k r o c) = same refl
 lines m n u b a ha (onStatus k r t o c) = same refl
 lines m n u b a ha (onRepair k r c) = same refl
+lines m n u b a ha (onCrash p h) = same refl
+lines m n u b a ha (onRestart p h) = same refl
+lines m n u b a ha (onCheckpoint p h up) = same refl
 
 -- the queues after: who is settled stays so, and whoever stands ahead still does, unless it is settled
 record Lined (m n : State) : Type 0 where

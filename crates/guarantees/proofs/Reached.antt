@@ -1,4 +1,5 @@
--- The invariant of every machine that a run reaches: not broken, the local record everywhere, the homes, and the causes.
+-- The invariant of every machine that a run reaches: not broken, the local record everywhere, the homes, the causes, and that the
+-- working states have what the checkpointed ones have.
 -- Kept by every step, and true of a fresh machine. Assumes nothing.
 use mathlib.Core.Path.{_≡_, refl, sym, ap, _∙_, subst}
 use mathlib.Core.Logic.{_≢_}
@@ -23,9 +24,11 @@ use Rattle.protocol.specs.Step.{numberOf, afterOf}
 use Rattle.protocol.specs.declared.Step.{Step}
 use Rattle.protocol.specs.declared.Step.the-variants.{Send}
 use Rattle.keeps.specs.Laws.{madeBy}
+use Rattle.keeps.specs.Lasting.{Backed}
 use Rattle.keeps.proofs.Conditions.{taken-when}
 use Rattle.keeps.proofs.Laws.{taken-gives, made-counts}
 use Rattle.keeps.proofs.Onward.{step-onward}
+use Rattle.keeps.proofs.Lasting.{step-backed}
 use Rattle.keeps.proofs.Which.{Kind, a-send, another, kinds}
 use Rattle.guarantees.proofs.Whole.{Everywhere}
 use Rattle.guarantees.proofs.Rules.{Homes, here, taken-keeps}
@@ -43,6 +46,7 @@ pub record Reached (m : State) : Type 0 where
   pub everywhere : Everywhere m
   pub homes : Homes m
   pub causes : Causes m
+  pub backed : Backed m
 
 -- an interaction after a step is one from before it, or the one that the step sent
 pub data Key (m : State) (s : Step) (k : ℕ) : Type 0 where
@@ -61,6 +65,9 @@ key m s k h = go (kinds s)
 module _ (m : State) (c : Reached m) where
   u : Unbroken m
   u = unbroken m (c .fine)
+
+  pub backed-kept : (s : Step) → numberOf m s ≡ 0 → Backed (afterOf m s)
+  backed-kept s e = subst Backed (ap (λ (o : Outcome). o .state) (taken-gives m s (c .fine) (taken-when m s e))) (step-backed m s (c .backed))
 
   pub both-kept : (s : Step) → numberOf m s ≡ 0 → Everywhere (afterOf m s) × Homes (afterOf m s)
   both-kept s e = taken-keeps m s (c .fine) e (c .everywhere, c .homes)

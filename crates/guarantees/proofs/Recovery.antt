@@ -12,7 +12,7 @@ use lib.ListN.{length, replicate, length-append}
 use lib.Seq.{getD-set-same, getD-set-other}
 use Rattle.protocol.specs.Words.{pick}
 use Rattle.protocol.specs.Slots.{noStore, shelf, isUp}
-use Rattle.protocol.specs.Writes.{turned}
+use Rattle.protocol.specs.Stores.{turned}
 use Rattle.protocol.specs.declared.Store.{Store}
 use Rattle.protocol.specs.declared.State.{State}
 use Rattle.protocol.specs.Outcome.{Outcome}

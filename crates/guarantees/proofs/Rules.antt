@@ -3,15 +3,18 @@ use mathlib.Core.Path.{_≡_, refl, sym, ap, _∙_, subst}
 use mathlib.Core.Logic.{_≢_}
 use mathlib.Core.Bool.{Bool, true, false}
 use mathlib.Core.List.{List}
-use Prim.Native.Nat.{ℕ, suc, _+_, _-_, _*_, _≤_, _<_}
+use Prim.Native.Nat.{ℕ, suc, _-_, _*_, _≤_, _<_}
 use native.Mathlib.Omega.{arith}
 use native.Mathlib.Decide.{ℕ-discrete}
-use borrow.Author.Tests.{not-true, not-false, eq-eqb, eqb-true, eqb-false}
+use borrow.Author.Tests.{not-true, not-false, eq-eqb, ne-eqb, eqb-true, eqb-false}
+use lib.Dec.{eqb}
 use lib.ListN.{length, getD, set, length-set}
 use lib.Seq.{getD-set-same, getD-set-other, set-getD}
 use Rattle.protocol.specs.Words.{pick, one}
-use Rattle.protocol.specs.Slots.{noRepair, noMessage, number, statusNumber, home, shelf, view, repair, entry, message, contents, viewlink, ackCopies, updateCopies, uackCopies, noView}
-use Rattle.protocol.specs.Writes.{withUpAt, withView, withRepair, withEntry, withEntries, withRecords, withLinks, withQueues, withAckCopies, withUpdateCopies, withUackCopies, withViewlink}
+use Rattle.protocol.specs.Slots.{noRepair, noMessage, number, statusNumber, home, shelf, view, repair, entry, message, recordCopies, ackCopies, updateCopies, uackCopies, isHeld, viewlink, isKept, keptViewlink, owesAck, owesUack, noView}
+use Rattle.protocol.specs.Stores.{turned, thrownBack, saved}
+use Rattle.protocol.specs.Sweep.{swept}
+use Rattle.protocol.specs.Writes.{withShelf, withView, withRepair, withEntry, withEntries, withRecords, withContents, withLinks, withQueues, withAckCopies, withUpdateCopies, withUackCopies}
 use Rattle.protocol.specs.Broken.{brokenOf}
 use Rattle.unbroken.specs.Unbroken.{Sized, Unbroken}
 use Rattle.unbroken.proofs.Laws.{whole}
@@ -25,39 +28,38 @@ use Rattle.protocol.specs.declared.Contents.{Contents}
 use Rattle.protocol.specs.declared.Links.{Links}
 use Rattle.protocol.specs.declared.Queue.{Queue}
 use Rattle.protocol.specs.Views.{phased}
-use Rattle.protocol.specs.Rule.{head}
+use Rattle.protocol.specs.Rule.{head, more}
 use Rattle.protocol.specs.Send.{sent, sentView, awaitedView}
 use Rattle.protocol.specs.Receive.{receivedOf, receivedView}
 use Rattle.protocol.specs.PreCheck.{checkedView}
 use Rattle.protocol.specs.Timeout.{isCurrent, timedView}
-use Rattle.protocol.specs.TakeRecord.{writtenContents, writtenViewlink}
+use Rattle.protocol.specs.TakeRecord.{takenIn}
+use Rattle.protocol.specs.Crash.{crashed}
+use Rattle.protocol.specs.Restart.{restarted}
+use Rattle.protocol.specs.Checkpoint.{checkpointed}
 use Rattle.protocol.specs.PostCheck.{postChecked, askedRepair}
 use Rattle.protocol.specs.TakeRepair.{repairTaken, entered, toSend}
 use Rattle.protocol.specs.SendUpdate.{inStatus}
 use Rattle.protocol.specs.Step.{numberOf, afterOf}
 use Rattle.protocol.specs.declared.Step.{Step}
 use Rattle.keeps.specs.Taken.{HeadIn, ViewOf, PlaceOf, SendTaken, ReceiveTaken, TakeRepairTaken}
-use Rattle.keeps.specs.Change.{HeadMove, isChecked, isSent, isTimed, isAcked, withFlight, FlightMove, recordComes, recordGoes, ackComes, ackGoes, updateComes, updateGoes, uackComes, uackGoes}
-use Rattle.keeps.specs.Change.{withHeld, LinkMove, isWritten, isUpdated, StatusMove, isWaiting, isExpired, isDone, Change, onUp, onSend, onReceive, onHead, onSettle, onFlight, onHeld, onViewlink, onStatus, onRepair}
+use Rattle.keeps.specs.Change.{HeadMove, isChecked, isSent, isTimed, isAcked, withFlight, FlightMove, recordComes, updateComes, recordsThere, acksThere, updatesThere, uacksThere}
+use Rattle.keeps.specs.Change.{withTaken, withUpdated, StatusMove, isWaiting, isExpired, isDone, Change, onSend, onReceive, onHead, onSettle, onFlight, onTaken, onUpdated, onStatus, onRepair, onCrash, onRestart, onCheckpoint}
 use Rattle.keeps.specs.Onward.{Onward}
 use Rattle.keeps.proofs.Changes.{taken-related}
 use Rattle.keeps.proofs.Onward.{change-onward}
 use Rattle.keeps.proofs.Laws.{sends-new-key}
 use Rattle.guarantees.proofs.Local
 use Rattle.unbroken.proofs.Laws.Tests.{by-test}
-use Rattle.guarantees.proofs.Local.{Job, Good, phasedJob, movedJob}
-use Rattle.guarantees.proofs.Whole.{job, jobOf, cell, Here, Everywhere, touched}
+use Rattle.guarantees.proofs.Local.{Job, Cell, Good, phasedJob, movedJob, countedCell, thrownCell, savedCell}
+use Rattle.guarantees.proofs.Whole.{job, jobOf, cell, Here, Everywhere, Touch, touched, at-one-store}
 use Rattle.unbroken.proofs.Laws.Room.{stores8, sender-made}
-use Rattle.unbroken.proofs.Shelves.{store-back, turned-link}
-use Rattle.guarantees.proofs.Touches.{withPlace, at-store, at-stores, update-touch, view-touch, repair-touch, entries-touch, entry-touch, place-touch}
+use Rattle.unbroken.proofs.Laws.Bits.{bit-none}
+use Rattle.unbroken.proofs.Laws.Has.{has-held, has-kept}
+use Rattle.unbroken.proofs.Shelves.{shelf-same, shelf-beside}
+use Rattle.unbroken.proofs.Places.{places-at}
+use Rattle.guarantees.proofs.Touches.{withCounts, written-cell, same-cell, at-store, at-stores, view-touch, repair-touch, entries-touch, entry-touch, counts-touch, taken-touch, updated-touch}
 use Rattle.guarantees.proofs.Heads.{Headed, keyOf, roleOf, headed}
-
-written-held : (c : Contents) (w : View) → one (writtenContents c w .held) ≡ 1
-written-held c w = go (c .held) refl
-  where
-    go : (b : Bool) → c .held ≡ b → one (writtenContents c w .held) ≡ 1
-    go true e = rw e
-    go false e = rw e
 
 one-zero : (b : Bool) → (b ≡ true → ⊥) → one b ≡ 0
 one-zero true h = absurd (h refl)
@@ -78,9 +80,9 @@ unfoldable pub Homes : State → Type 0
 Homes m = (k : ℕ) → k < m .made → view m (number k 0) .viewlink ≡ home m (view m (number k 1) .actor)
 
 -- arrays that the record doesn't speak of
-same-slots : (m : State) (l : List ℕ) (ls : List Links) (qs : List Queue) → Everywhere m → Everywhere (withQueues (withLinks (withRecords m l) ls) qs)
+same-slots : (m : State) (l : List ℕ) (cs : List Contents) (ls : List Links) (qs : List Queue) → Everywhere m → Everywhere (withQueues (withLinks (withContents (withRecords m l) cs) ls) qs)
 unfolding Everywhere
-same-slots m l ls qs inv = inv
+same-slots m l cs ls qs inv = inv
 
 module _ (m : State) (z : Sized m) (fits : m .made ≤ 16) (inv : Everywhere m) where
   -- the two halves at the interaction k
@@ -130,14 +132,20 @@ module _ (m : State) (z : Sized m) (fits : m .made ≤ 16) (inv : Everywhere m) 
     by-entries e f q a b =
         touched m (withRepair (withEntries m (set (set (m .entries) v e) o f)) v q) k r _ _ _ _ hr (entries-touch m z k r key16 hr e f q) (λ j h n. h) fits inv a b
 
-    pub by-place : (p : ℕ) → p < 8 → length (shelf m p .viewlinks) ≡ 32 → (c : Contents) (l a n y : ℕ)
-        → (Good (job m v) (cell m p v) (job m o) (cell m p o) (message m k .own) p → Good (job m o) (cell m p o) (job m v) (cell m p v) (message m k .own) p → Good (job m v) (record { held = one (c .held); link = l; acks = a; updates = n; uacks = y }) (job m o) (cell m p o) (message m k .own) p)
-        → (Good (job m v) (cell m p v) (job m o) (cell m p o) (message m k .own) p → Good (job m o) (cell m p o) (job m v) (cell m p v) (message m k .own) p → Good (job m o) (cell m p o) (job m v) (record { held = one (c .held); link = l; acks = a; updates = n; uacks = y }) (message m k .own) p)
-        → Everywhere (withPlace m p v c l a n y)
-    by-place p hp row c l a n y f g =
-        touched m (withPlace m p v c l a n y) k r _ _ _ _ hr (place-touch m z k r key16 hr p hp row c l a n y) (λ j h x. h) fits inv
-        (at-store (λ q x. Good (job m v) x (job m o) (cell m q o) (message m k .own) q) p _ (λ q. cell m q v) (f (here k r p hk hr hp) (there k r p hk hr hp)) (λ q hq. here k r q hk hr hq))
-        (at-store (λ q x. Good (job m o) (cell m q o) (job m v) x (message m k .own) q) p _ (λ q. cell m q v) (g (here k r p hk hr hp) (there k r p hk hr hp)) (λ q hq. there k r q hk hr hq))
+    -- what the two halves say of a new place at the store p
+    pub by-place : (n : State) (p : ℕ) (c : Cell) → n .made ≡ m .made → (message n k .own ≡ message m k .own) → p < 8
+        → Touch m n k r (job m v) (job m o) (λ q. pick (eqb q p) c (cell m q v)) (λ q. cell m q o)
+        → Good (job m v) c (job m o) (cell m p o) (message m k .own) p → Good (job m o) (cell m p o) (job m v) c (message m k .own) p → Everywhere n
+    by-place n p c e f hp t a b =
+        touched m n k r _ _ _ _ hr t (λ j h x. omega arith) (omega arith) inv
+        (rw f (at-store (λ q x. Good (job m v) x (job m o) (cell m q o) (message m k .own) q) p c (λ q. cell m q v) a (λ q hq. here k r q hk hr hq)))
+        (rw f (at-store (λ q x. Good (job m o) (cell m q o) (job m v) x (message m k .own) q) p c (λ q. cell m q v) b (λ q hq. there k r q hk hr hq)))
+
+    -- copies that come and go
+    by-counts : (p : ℕ) → p < 8 → (a n y : ℕ) → (0 < a → 0 < ackCopies m p v) → (0 < n → 0 < statusNumber (entry m v .status)) → (0 < y → 0 < uackCopies m p v) → Everywhere (withCounts m p v a n y)
+    by-counts p hp a n y f g h =
+        by-place (withCounts m p v a n y) p (countedCell a n y (cell m p v)) refl refl hp (counts-touch m z k r key16 hr p hp a n y)
+        (Local.counted-me (here k r p hk hr hp) (there k r p hk hr hp) a n y f g h) (Local.counted-ot (here k r p hk hr hp) (there k r p hk hr hp) a n y)
 
   -- what holds of every view in the phase n holds of a head in it
   pub at-head : (P : ℕ → Type 0) (n : ℕ) → ((k r : ℕ) → k < m .made → r < 2 → view m (number k r) .phase ≡ n → P (number k r)) → (a : ℕ) → Headed m a n → P (head m a)
@@ -147,22 +155,16 @@ module _ (m : State) (z : Sized m) (fits : m .made ≤ 16) (inv : Everywhere m) 
       let e : number (keyOf x) (roleOf x) ≡ x = omega arith in
       subst (λ (y : ℕ). view m y .phase ≡ n → P y) e (f (keyOf x) (roleOf x) (omega arith) (omega arith)) (h .phase)
 
-  -- copies: what stands at a place stays but for a count
-  module _ (k r p : ℕ) (hk : k < m .made) (hr : r < 2) (hp : p < 8) (row : length (shelf m p .viewlinks) ≡ 32) where
-    with-acks : (n : ℕ) → (0 < n → one (contents m p (number k r) .held) ≡ 1) → (0 < n → 0 < viewlink m p (number k r)) → Everywhere (withAckCopies m p (number k r) n)
-    with-acks n f g =
-        simp (set-getD, store-back) at (by-place k r hk hr p hp row (contents m p (number k r)) (viewlink m p (number k r)) n (updateCopies m p (number k r)) (uackCopies m p (number k r))
-        (λ a b. Local.counted-me a b n _ _ f g (a .updateEntry) (a .uackEntry) (a .wrote)) (λ a b. Local.counted-ot a b n _ _))
+  -- .. of one sort
+  module _ (k r p : ℕ) (hk : k < m .made) (hr : r < 2) (hp : p < 8) where
+    with-acks : (n : ℕ) → 0 < ackCopies m p (number k r) → Everywhere (withAckCopies m p (number k r) n)
+    with-acks n c = simp set-getD at (by-counts k r hk hr p hp n (updateCopies m p (number k r)) (uackCopies m p (number k r)) (λ x. c) (here k r p hk hr hp .updateEntry) (λ x. x))
 
-    with-updates : (n : ℕ) → (0 < n → 0 < statusNumber (entry m (number k r) .status)) → Everywhere (withUpdateCopies m p (number k r) n)
-    with-updates n f =
-        simp (set-getD, store-back) at (by-place k r hk hr p hp row (contents m p (number k r)) (viewlink m p (number k r)) (ackCopies m p (number k r)) n (uackCopies m p (number k r))
-        (λ a b. Local.counted-me a b _ n _ (a .ackHeld) (a .ackLinked) f (a .uackEntry) (a .wrote)) (λ a b. Local.counted-ot a b _ n _))
+    with-updates : (n : ℕ) → 0 < statusNumber (entry m (number k r) .status) → Everywhere (withUpdateCopies m p (number k r) n)
+    with-updates n c = simp set-getD at (by-counts k r hk hr p hp (ackCopies m p (number k r)) n (uackCopies m p (number k r)) (λ x. x) (λ x. c) (λ x. x))
 
-    with-uacks : (n : ℕ) → (0 < n → 0 < statusNumber (entry m (number k r) .status)) → (0 < n → viewlink m p (number k (1 - r)) ≡ suc (view m (number k r) .store)) → Everywhere (withUackCopies m p (number k r) n)
-    with-uacks n f g =
-        simp (set-getD, store-back) at (by-place k r hk hr p hp row (contents m p (number k r)) (viewlink m p (number k r)) (ackCopies m p (number k r)) (updateCopies m p (number k r)) n
-        (λ a b. Local.counted-me a b _ _ n (a .ackHeld) (a .ackLinked) (a .updateEntry) f g) (λ a b. Local.counted-ot a b _ _ n))
+    with-uacks : (n : ℕ) → 0 < uackCopies m p (number k r) → Everywhere (withUackCopies m p (number k r) n)
+    with-uacks n c = simp set-getD at (by-counts k r hk hr p hp (ackCopies m p (number k r)) (updateCopies m p (number k r)) n (λ x. x) (here k r p hk hr hp .updateEntry) (λ x. c))
 
 module _ (m : State) (u : Unbroken m) (inv : Everywhere m) where
   z : Sized m
@@ -222,7 +224,7 @@ module _ (m : State) (u : Unbroken m) (inv : Everywhere m) where
   post-checks : (a : ℕ) → HeadIn 4 m a → Everywhere (postChecked m a)
   unfolding postChecked
   post-checks a e =
-      same-slots _ (m .records) (m .links) _
+      same-slots _ (m .records) (m .contents) (m .links) _
       (at-head m z fits inv (λ x. Everywhere (withRepair (withView m x (phased 5 (view m x))) x (askedRepair (repair m x) (view m x)))) 4 settles a (headed m u a 4 e))
 
   -- copies come and go: those of records aren't spoken of
@@ -230,60 +232,48 @@ module _ (m : State) (u : Unbroken m) (inv : Everywhere m) where
     in8 : p < 8
     in8 = omega (arith, stores8 m u, o .storeIn)
 
-    at-place : Good (job m (number k r)) (cell m p (number k r)) (job m (number k (1 - r))) (cell m p (number k (1 - r))) (message m k .own) p
+    at-place : Here m k r p
     at-place = here m z fits inv k r p (o .keyIn) (o .roleIn) in8
 
-    acks-go : (n : ℕ) → (0 < n → one (contents m p (number k r) .held) ≡ 1) → (0 < n → 0 < viewlink m p (number k r)) → Everywhere (withAckCopies m p (number k r) n)
-    acks-go = with-acks m z fits inv k r p (o .keyIn) (o .roleIn) in8 (u .storeAt p in8 .long)
+    other-place : Good (job m (number k (1 - r))) (cell m p (number k (1 - r))) (job m (number k r)) (cell m p (number k r)) (message m k .own) p
+    other-place = there m z fits inv k r p (o .keyIn) (o .roleIn) in8
 
-    updates-go : (n : ℕ) → (0 < n → 0 < statusNumber (entry m (number k r) .status)) → Everywhere (withUpdateCopies m p (number k r) n)
-    updates-go = with-updates m z fits inv k r p (o .keyIn) (o .roleIn) in8 (u .storeAt p in8 .long)
+    in32 : number k r < 32
+    in32 = omega (arith, fits, o .keyIn, o .roleIn)
 
-    uacks-go : (n : ℕ) → (0 < n → 0 < statusNumber (entry m (number k r) .status)) → (0 < n → viewlink m p (number k (1 - r)) ≡ suc (view m (number k r) .store)) → Everywhere (withUackCopies m p (number k r) n)
-    uacks-go = with-uacks m z fits inv k r p (o .keyIn) (o .roleIn) in8 (u .storeAt p in8 .long)
+    row : length (shelf m p .viewlinks) ≡ 32
+    row = u .storeAt p in8 .working .long
 
   flies : (records acks updates uacks : List ℕ) → FlightMove m records acks updates uacks → Everywhere (withFlight m records acks updates uacks)
-  flies records acks updates uacks (recordComes p v hs hm e f) = same-slots m _ (m .links) (m .queues) inv
-  flies records acks updates uacks (recordGoes p k r o c) = same-slots m _ (m .links) (m .queues) inv
-  flies records acks updates uacks (ackComes p k r o h l) = acks-go p k r o _ (λ n. ap one h) (λ n. l)
-  flies records acks updates uacks (ackGoes p k r o c) = acks-go p k r o _ (λ n. at-place p k r o .ackHeld c) (λ n. at-place p k r o .ackLinked c)
-  flies records acks updates uacks (updateComes p k r o e f) = updates-go p k r o _ (λ n. omega (arith, ap statusNumber e))
-  flies records acks updates uacks (updateGoes p k r o c) = updates-go p k r o _ (λ n. at-place p k r o .updateEntry c)
-  flies records acks updates uacks (uackComes p k r o c l) =
-      let a = at-place p k r o in
-      let s = a .updateEntry c in
-      uacks-go p k r o _ (λ n. s) (λ n. omega (arith, l, a .entryOwn s))
-  flies records acks updates uacks (uackGoes p k r o c) = uacks-go p k r o _ (λ n. at-place p k r o .uackEntry c) (λ n. at-place p k r o .wrote c)
+  flies records acks updates uacks (recordComes p v hs hm e f) = same-slots m _ (m .contents) (m .links) (m .queues) inv
+  flies records acks updates uacks (recordsThere p k r n o c few) = same-slots m _ (m .contents) (m .links) (m .queues) inv
+  flies records acks updates uacks (acksThere p k r n o c few) = with-acks m z fits inv k r p (o .keyIn) (o .roleIn) (in8 p k r o) n c
+  flies records acks updates uacks (updateComes p k r o e f) = with-updates m z fits inv k r p (o .keyIn) (o .roleIn) (in8 p k r o) _ (omega (arith, ap statusNumber e))
+  flies records acks updates uacks (updatesThere p k r n o c few) = with-updates m z fits inv k r p (o .keyIn) (o .roleIn) (in8 p k r o) n (at-place p k r o .updateEntry c)
+  flies records acks updates uacks (uacksThere p k r n o c few) = with-uacks m z fits inv k r p (o .keyIn) (o .roleIn) (in8 p k r o) n c
 
-  -- 6: contents are there from now on
-  holds : (p k r : ℕ) → PlaceOf m p k r → Everywhere (withHeld m p k r)
-  holds p k r o =
+  -- 6: contents are there from now on, with a viewlink, and an ack is owed
+  takes-record : (p k r : ℕ) → PlaceOf m p k r → 1 ≤ recordCopies m p (number k r) → Everywhere (withTaken m p k r)
+  takes-record p k r o c =
       let hp = in8 p k r o in
-      let c = writtenContents (contents m p (number k r)) (view m (number k r)) in
-      let f : one (c .held) ≡ 1 = written-held (contents m p (number k r)) (view m (number k r)) in
-      same-slots _ (m .records) _ (m .queues)
-      (simp (set-getD, store-back) at (by-place m z fits inv k r (o .keyIn) (o .roleIn) p hp (u .storeAt p hp .long) c (viewlink m p (number k r)) (ackCopies m p (number k r)) (updateCopies m p (number k r)) (uackCopies m p (number k r))
-      (λ a b. rw f (Local.held-me a b)) (λ a b. rw f (Local.held-ot a b))))
+      let g = u .recordAt p (number k r) hp (in32 p k r o) .atView c in
+      let w = view m (number k r) in
+      same-slots (withShelf m p (takenIn (shelf m p) (number k r) w)) (m .records) _ _ (m .queues)
+      (by-place m z fits inv k r (o .keyIn) (o .roleIn) (withShelf m p (takenIn (shelf m p) (number k r) w)) p _ refl refl hp (taken-touch m z k r (omega (arith, fits, o .keyIn)) (o .roleIn) p hp (row p k r o) w)
+      (Local.recorded-me (at-place p k r o) (other-place p k r o) g) (Local.recorded-ot (at-place p k r o) (other-place p k r o) g))
 
-  -- 6, 11: a viewlink is written
-  links : (p k v link : ℕ) → p < m .stores → k < m .made → LinkMove m p k v link → Everywhere (withViewlink m p v link)
-  links p k v link hs hk (isWritten r hr c h) =
-      let hp : p < 8 = omega (arith, stores8 m u) in
-      let hv : number k r < 32 = omega (arith, fits) in
-      let g = u .recordAt p (number k r) hp hv .atView c in
-      simp set-getD at (by-place m z fits inv k r hk hr p hp (u .storeAt p hp .long) (contents m p (number k r)) (writtenViewlink (viewlink m p (number k r)) (view m (number k r))) (ackCopies m p (number k r)) (updateCopies m p (number k r)) (uackCopies m p (number k r))
-      (λ a b. Local.filled-me a b g) (λ a b. Local.filled-ot a b g))
-  links p k v link hs hk (isUpdated r hr c) =
-      let hp : p < 8 = omega (arith, stores8 m u) in
-      let l = entry m (number k r) .own + 1 in
-      let n = updateCopies m p (number k r) in
-      let y = uackCopies m p (number k r) in
-      let a = here m z fits inv k r p hk hr hp in
-      let b = there m z fits inv k r p hk hr hp in
+  -- 11: the viewlink of the other view is written, and a uack is owed
+  takes-update : (p k r : ℕ) → PlaceOf m p k r → 1 ≤ updateCopies m p (number k r) → Everywhere (withUpdated m p k r)
+  takes-update p k r o c =
+      let hp = in8 p k r o in
+      let hk = o .keyIn in
+      let hr = o .roleIn in
+      let a = at-place p k r o in
+      let b = other-place p k r o in
       let s = a .updateEntry c in
-      simp set-getD at (touched m _ k r _ _ _ _ hr (update-touch m z k r (omega (arith, fits)) hr p hp (u .storeAt p hp .long) l n y) (λ j h x. h) fits inv
-      (at-stores (λ q x x′. Good (job m (number k r)) x (job m (number k (1 - r))) x′ (message m k .own) q) p _ _ (λ q. cell m q (number k r)) (λ q. cell m q (number k (1 - r))) (Local.updated-me a b s n y) (λ q hq. here m z fits inv k r q hk hr hq))
-      (at-stores (λ q x x′. Good (job m (number k (1 - r))) x′ (job m (number k r)) x (message m k .own) q) p _ _ (λ q. cell m q (number k r)) (λ q. cell m q (number k (1 - r))) (Local.updated-ot a b s n y) (λ q hq. there m z fits inv k r q hk hr hq)))
+      touched m _ k r _ _ _ _ hr (updated-touch m z k r (omega (arith, fits)) hr p hp (row p k r o) (entry m (number k r) .own)) (λ j h x. h) fits inv
+      (at-stores (λ q x x′. Good (job m (number k r)) x (job m (number k (1 - r))) x′ (message m k .own) q) p _ _ (λ q. cell m q (number k r)) (λ q. cell m q (number k (1 - r))) (Local.updated-me a b s) (λ q hq. here m z fits inv k r q hk hr hq))
+      (at-stores (λ q x x′. Good (job m (number k (1 - r))) x′ (job m (number k r)) x (message m k .own) q) p _ _ (λ q. cell m q (number k r)) (λ q. cell m q (number k (1 - r))) (Local.updated-ot a b s) (λ q hq. there m z fits inv k r q hk hr hq))
 
   -- 10, 13: an entry's status
   with-status : (k r s : ℕ) (e : Entry) → k < m .made → r < 2 → 0 < statusNumber (entry m (number k r) .status) → statusNumber (e .status) ≡ s → 0 < s → s < 3
@@ -304,14 +294,70 @@ module _ (m : State) (u : Unbroken m) (inv : Everywhere m) where
       let f = ap statusNumber e in
       let l = here m z fits inv k r p hk hr hp .wrote c in
       by-entry m z fits inv k r hk hr (inStatus Done (entry m (number k r)))
-      (λ q hq x y. Local.stated-me x y 3 (omega arith) (omega arith) (omega arith) (λ h i. subst (λ (s : ℕ). viewlink m s (number k (1 - r)) ≡ suc (view m (number k r) .store)) (sym d ∙ i) l))
+      (λ q hq x y. Local.stated-me x y 3 (omega arith) (omega arith) (omega arith) (λ h i. subst (λ (s : ℕ). keptViewlink m s (number k (1 - r)) ≡ suc (view m (number k r) .store)) (sym d ∙ i) l))
       (λ q hq x y. Local.stated-ot x y 3 (omega arith) (omega arith) (omega arith))
 
-  -- 15, 16
-  goes-up-or-down : (p : ℕ) (b : Bool) → Everywhere (withUpAt m p b)
-  unfolding Everywhere
-  goes-up-or-down p b k r q hk hr hq =
-      rw (turned-link (m .shelves) p b q (number k r), turned-link (m .shelves) p b q (number k (1 - r))) (inv k r q hk hr hq)
+  -- 16: nothing that the record speaks of
+  restarts : (p : ℕ) → p < m .stores → Everywhere (restarted m p)
+  unfolding Everywhere restarted
+  restarts p h k r q hk hr hq =
+      let t = turned (shelf m p) true in
+      let hp : p < 8 = omega (arith, stores8 m u) in
+      rw (same-cell m z p hp t q (number k r) refl, same-cell m z p hp t q (number k (1 - r)) refl) (inv k r q hk hr hq)
+
+  -- 15, 17: the whole store
+  module _ (p : ℕ) (h : p < m .stores) where
+    p8 : p < 8
+    p8 = omega (arith, stores8 m u)
+
+    crashes : Everywhere (crashed m p)
+    unfolding crashed swept
+    crashes =
+        let t = thrownBack (shelf m p) in
+        let now : (v : ℕ) → cell (withShelf m p t) p v ≡ thrownCell (cell m p v) = λ v. written-cell m z p p8 t p v ∙ rw (eq-eqb p p refl, bit-none v) in
+        at-one-store m (crashed m p) p refl fits (λ v. refl) (λ k. refl) (λ q v hq hv n. written-cell m z p p8 t q v ∙ rw (ne-eqb q p n)) inv
+        (λ k r hk hr hp. rw (now (number k r), now (number k (1 - r))) (Local.thrown-me (here m z fits inv k r p hk hr hp) (there m z fits inv k r p hk hr hp)))
+
+    -- the copies of a view after a checkpoint: one more where one was owed
+    abbrev owedOf : (ℕ → Bool) → ℕ → ℕ → ℕ
+    owedOf owes v n = pick (owes v) (more n) n
+
+    acks-at : (q v : ℕ) → q < 8 → v < 32 → ackCopies (checkpointed m p) q v ≡ pick (eqb q p) (owedOf (owesAck m p) v (ackCopies m q v)) (ackCopies m q v)
+    unfolding checkpointed swept
+    acks-at q v hq hv = places-at 32 p (owedOf (owesAck m p)) 0 (m .acks) q v hq hv
+
+    uacks-at : (q v : ℕ) → q < 8 → v < 32 → uackCopies (checkpointed m p) q v ≡ pick (eqb q p) (owedOf (owesUack m p) v (uackCopies m q v)) (uackCopies m q v)
+    unfolding checkpointed swept
+    uacks-at q v hq hv = places-at 32 p (owedOf (owesUack m p)) 0 (m .uacks) q v hq hv
+
+    updates-at : (q v : ℕ) → updateCopies (checkpointed m p) q v ≡ updateCopies m q v
+    unfolding checkpointed swept
+    updates-at q v = refl
+
+    saved-here : shelf (checkpointed m p) p ≡ saved (shelf m p)
+    unfolding checkpointed swept
+    saved-here = shelf-same (m .shelves) p (saved (shelf m p)) (z .shelves) p8
+
+    saved-beside : (q : ℕ) → q ≢ p → shelf (checkpointed m p) q ≡ shelf m q
+    unfolding checkpointed swept
+    saved-beside q n = shelf-beside (m .shelves) p (saved (shelf m p)) q n
+
+    not-owed : (owes : ℕ → Bool) (v n : ℕ) → 0 < owedOf owes v n → one (owes v) ≡ 0 → 0 < n
+    not-owed owes v n some e = subst (λ (b : Bool). 0 < pick b (more n) n) (one-false (owes v) e) some
+
+    saved-cell : (v : ℕ) → v < 32 → cell (checkpointed m p) p v ≡ savedCell (owedOf (owesAck m p) v (ackCopies m p v)) (owedOf (owesUack m p) v (uackCopies m p v)) (cell m p v)
+    saved-cell v hv = rw (acks-at p v p8 hv, uacks-at p v p8 hv, updates-at p v, eq-eqb p p refl, saved-here, bit-none v)
+
+    far-cell : (q v : ℕ) → q < 8 → v < 32 → q ≢ p → cell (checkpointed m p) q v ≡ cell m q v
+    far-cell q v hq hv n = rw (acks-at q v hq hv, uacks-at q v hq hv, updates-at q v, ne-eqb q p n, saved-beside q n)
+
+    checkpoints : Everywhere (checkpointed m p)
+    unfolding checkpointed swept
+    checkpoints =
+        at-one-store m (checkpointed m p) p refl fits (λ v. refl) (λ k. refl) far-cell inv
+        (λ k r hk hr hp. rw (saved-cell (number k r) (omega (arith, fits)), saved-cell (number k (1 - r)) (omega (arith, fits)))
+        (Local.saved-me (here m z fits inv k r p hk hr hp) (there m z fits inv k r p hk hr hp) _ _ _ _
+        (not-owed (owesAck m p) (number k r) (ackCopies m p (number k r))) (not-owed (owesUack m p) (number k r) (uackCopies m p (number k r)))))
 
   -- 9
   takes-repair : (k r : ℕ) → TakeRepairTaken m k r → Everywhere (repairTaken m k r)
@@ -381,12 +427,16 @@ module _ (m : State) (u : Unbroken m) (inv : Everywhere m) where
     unmade-cell : (p : ℕ) → p < 8 → cell m p v ≡ Local.blankCell
     unmade-cell p hp =
         let f = u .viewAt v h .phaseBlank far in
-        let a : one (contents m p v .held) ≡ 0 = one-zero (contents m p v .held) (λ e. omega (arith, u .contentsAt p v hp h .ready e)) in
-        let b : viewlink m p v ≡ 0 = Local.none (λ e. omega (arith, u .storeAt p hp .linkAt v h .atView e)) in
+        let a : one (isHeld m p v) ≡ 0 = one-zero (isHeld m p v) (λ e. omega (arith, u .contentsAt p v hp h .ready (has-held m p v e))) in
+        let b : viewlink m p v ≡ 0 = Local.none (λ e. omega (arith, u .storeAt p hp .working .linkAt v h .atView e)) in
+        let i : one (isKept m p v) ≡ 0 = one-zero (isKept m p v) (λ e. omega (arith, u .contentsAt p v hp h .ready (has-kept m p v e))) in
+        let j : keptViewlink m p v ≡ 0 = Local.none (λ e. omega (arith, u .storeAt p hp .checkpointed .linkAt v h .atView e)) in
+        let x : one (owesAck m p v) ≡ 0 = one-zero (owesAck m p v) (λ e. omega (arith, u .ackOwed p v hp h e)) in
+        let y : one (owesUack m p v) ≡ 0 = one-zero (owesUack m p v) (λ e. omega (arith, u .uackOwed p v hp h e, no-status)) in
         let c : ackCopies m p v ≡ 0 = Local.none (λ e. omega (arith, u .ackAt p v hp h .atView e)) in
         let d : updateCopies m p v ≡ 0 = Local.none (λ e. omega (arith, u .updateAt p v hp h .atView e, no-status)) in
         let g : uackCopies m p v ≡ 0 = Local.none (λ e. omega (arith, u .uackAt p v hp h .atView e, no-status)) in
-        rw (a, b, c, d, g)
+        rw (a, b, i, j, x, y, c, d, g)
 
   sends : (from to own word causes : ℕ) → SendTaken m from to own causes → Everywhere (sent m from to own word causes)
   unfolding sent
@@ -416,16 +466,18 @@ module _ (m : State) (u : Unbroken m) (inv : Everywhere m) where
       (λ p hp. rw (getD-set-same (m .messages) k (record { flying = true; own = own; word = word }) noMessage (omega (arith, z .messages))) (Local.sent-ot own (home m to) p))
 
   pub change-everywhere : (n : State) → Homes m → Change m n → Everywhere n
-  change-everywhere n homes (onUp p b h) = goes-up-or-down p b
   change-everywhere n homes (onSend from to own word causes t) = sends from to own word causes t
   change-everywhere n homes (onReceive k t) = receives homes k t
   change-everywhere n homes (onHead a w h) = head-goes a w h
   change-everywhere n homes (onSettle a h) = post-checks a h
   change-everywhere n homes (onFlight records acks updates uacks f) = flies records acks updates uacks f
-  change-everywhere n homes (onHeld p k r o c) = holds p k r o
-  change-everywhere n homes (onViewlink p k v link hs hk l) = links p k v link hs hk l
+  change-everywhere n homes (onTaken p k r o c) = takes-record p k r o c
+  change-everywhere n homes (onUpdated p k r o c) = takes-update p k r o c
   change-everywhere n homes (onStatus k r t o c) = states k r t o c
   change-everywhere n homes (onRepair k r t) = takes-repair k r t
+  change-everywhere n homes (onCrash p h) = crashes p h
+  change-everywhere n homes (onRestart p h) = restarts p h
+  change-everywhere n homes (onCheckpoint p h up) = checkpoints p h
 
 -- .. and the sender's viewlink the receiver's home: no change takes it away, and a send writes it
 module _ (m n : State) (u : Unbroken m) (on : Onward m n) (homes : Homes m) where
@@ -454,17 +506,19 @@ sent-homes m u from to own word causes t homes k hk = go (ℕ-discrete k (m .mad
     go (no f) = old-home m n u (change-onward m n u (onSend from to own word causes t)) homes k (omega arith)
 
 pub change-homes : (m n : State) → Unbroken m → Homes m → Change m n → Homes n
-unfolding receivedOf postChecked repairTaken
-change-homes m n u homes (onUp p b h) = same-homes m n u (change-onward m n u (onUp p b h)) homes refl
+unfolding receivedOf postChecked repairTaken swept crashed restarted checkpointed
 change-homes m n u homes (onSend from to own word causes t) = sent-homes m u from to own word causes t homes
 change-homes m n u homes (onReceive k t) = same-homes m n u (change-onward m n u (onReceive k t)) homes refl
 change-homes m n u homes (onHead a w h) = same-homes m n u (change-onward m n u (onHead a w h)) homes refl
 change-homes m n u homes (onSettle a h) = same-homes m n u (change-onward m n u (onSettle a h)) homes refl
 change-homes m n u homes (onFlight records acks updates uacks f) = same-homes m n u (change-onward m n u (onFlight records acks updates uacks f)) homes refl
-change-homes m n u homes (onHeld p k r o c) = same-homes m n u (change-onward m n u (onHeld p k r o c)) homes refl
-change-homes m n u homes (onViewlink p k v link hs hk l) = same-homes m n u (change-onward m n u (onViewlink p k v link hs hk l)) homes refl
+change-homes m n u homes (onTaken p k r o c) = same-homes m n u (change-onward m n u (onTaken p k r o c)) homes refl
+change-homes m n u homes (onUpdated p k r o c) = same-homes m n u (change-onward m n u (onUpdated p k r o c)) homes refl
 change-homes m n u homes (onStatus k r t o c) = same-homes m n u (change-onward m n u (onStatus k r t o c)) homes refl
 change-homes m n u homes (onRepair k r c) = same-homes m n u (change-onward m n u (onRepair k r c)) homes refl
+change-homes m n u homes (onCrash p h) = same-homes m n u (change-onward m n u (onCrash p h)) homes refl
+change-homes m n u homes (onRestart p h) = same-homes m n u (change-onward m n u (onRestart p h)) homes refl
+change-homes m n u homes (onCheckpoint p h up) = same-homes m n u (change-onward m n u (onCheckpoint p h up)) homes refl
 
 -- so every step keeps both
 pub taken-keeps : (m : State) (s : Step) → brokenOf m ≡ false → numberOf m s ≡ 0 → Everywhere m × Homes m → Everywhere (afterOf m s) × Homes (afterOf m s)

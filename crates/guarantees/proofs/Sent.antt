@@ -21,18 +21,23 @@ use Rattle.protocol.specs.declared.Message.{Message}
 use Rattle.protocol.specs.declared.Setup.{Setup}
 use Rattle.protocol.specs.Outcome.{Outcome}
 use Rattle.unbroken.proofs.Laws.{unbroken}
+use Rattle.unbroken.proofs.Laws.Has.{has-kept}
 use Rattle.unbroken.proofs.Laws.Room.{sender-made}
 use Rattle.protocol.specs.Send.{sent}
 use Rattle.protocol.specs.Receive.{receivedOf, receivedView}
 use Rattle.protocol.specs.PostCheck.{postChecked}
 use Rattle.protocol.specs.TakeRepair.{repairTaken}
+use Rattle.protocol.specs.Sweep.{swept}
+use Rattle.protocol.specs.Crash.{crashed}
+use Rattle.protocol.specs.Restart.{restarted}
+use Rattle.protocol.specs.Checkpoint.{checkpointed}
 use Rattle.protocol.specs.Step.{numberOf, afterOf, stepOf}
 use Rattle.protocol.specs.declared.Step.{Step}
 use Rattle.protocol.specs.declared.Step.the-variants.{Send}
 use Rattle.protocol.specs.Run.{ran, freshOf}
 use Rattle.keeps.specs.Laws.{madeBy}
 use Rattle.keeps.specs.Onward.{ViewOn, Onward}
-use Rattle.keeps.specs.Change.{Change, onUp, onSend, onReceive, onHead, onSettle, onFlight, onHeld, onViewlink, onStatus, onRepair}
+use Rattle.keeps.specs.Change.{Change, onSend, onReceive, onHead, onSettle, onFlight, onTaken, onUpdated, onStatus, onRepair, onCrash, onRestart, onCheckpoint}
 use Rattle.keeps.proofs.Changes.{step-related}
 use Rattle.keeps.proofs.Conditions.{taken-when, when-taken}
 use Rattle.keeps.proofs.Laws.{taken-gives, refused-gives, made-counts}
@@ -63,8 +68,7 @@ record Posted (m n : State) : Type 0 where
   left : (k : ℕ) → k < m .made → view n (number k 1) .phase ≡ 0 → message n k ≡ message m k
 
 posted : (m n : State) → Unbroken m → Change m n → (k : ℕ) → k < m .made → view n (number k 1) .phase ≡ 0 → message n k ≡ message m k
-unfolding sent receivedOf postChecked repairTaken
-posted m n u (onUp p b h) k hk z = refl
+unfolding sent receivedOf postChecked repairTaken swept crashed restarted checkpointed
 posted m n u (onSend from to own word causes t) k hk z =
     getD-set-other (m .messages) (m .made) k (record { flying = true; own = own; word = word }) noMessage (λ e. let y : ⊥ = omega arith in y)
 posted m n u (onReceive i t) k hk z = go (ℕ-discrete k i)
@@ -77,10 +81,13 @@ posted m n u (onReceive i t) k hk z = go (ℕ-discrete k i)
 posted m n u (onHead a w h) k hk z = refl
 posted m n u (onSettle a h) k hk z = refl
 posted m n u (onFlight records acks updates uacks f) k hk z = refl
-posted m n u (onHeld p i r o c) k hk z = refl
-posted m n u (onViewlink p i v link hs hi l) k hk z = refl
+posted m n u (onTaken p i r o c) k hk z = refl
+posted m n u (onUpdated p i r o c) k hk z = refl
 posted m n u (onStatus i r t o c) k hk z = refl
 posted m n u (onRepair i r c) k hk z = refl
+posted m n u (onCrash p h) k hk z = refl
+posted m n u (onRestart p h) k hk z = refl
+posted m n u (onCheckpoint p h up) k hk z = refl
 
 awaited : (m n : State) → Onward m n → (k : ℕ) → k < m .made → view n (number k 1) .phase ≡ 0 → view m (number k 1) .phase ≡ 0
 awaited m n on k hk z = none (λ h. omega (arith, on .views (number k 1) (omega arith) .phase 1 (λ e. omega arith) h))
@@ -259,9 +266,9 @@ as-sent =
           let x = told-on u l steps further k (t .made) in
           record {
             held = n .held;
-            asserter = y .contentsAt p (number k 0) (n .low) v .sameActor (n .held) ∙ x .from;
-            word = y .contentsAt p (number k 0) (n .low) v .sameWord (n .held) ∙ x .word;
-            causes = y .contentsAt p (number k 0) (n .low) v .sameCauses (n .held) ∙ x .causes;
+            asserter = y .contentsAt p (number k 0) (n .low) v .sameActor (has-kept (after u (steps ++ further)) p (number k 0) (n .held)) ∙ x .from;
+            word = y .contentsAt p (number k 0) (n .low) v .sameWord (has-kept (after u (steps ++ further)) p (number k 0) (n .held)) ∙ x .word;
+            causes = y .contentsAt p (number k 0) (n .low) v .sameCauses (has-kept (after u (steps ++ further)) p (number k 0) (n .held)) ∙ x .causes;
           };
       receiver = λ u l steps further k p a.
           let t = acked-at u l steps k 1 p (omega arith) a in
@@ -271,8 +278,8 @@ as-sent =
           let x = told-on u l steps further k (t .made) in
           record {
             held = n .held;
-            asserter = y .contentsAt p (number k 1) (n .low) v .sameActor (n .held) ∙ x .to;
-            word = y .contentsAt p (number k 1) (n .low) v .sameWord (n .held) ∙ x .heard (omega (arith, n .past));
-            causes = y .contentsAt p (number k 1) (n .low) v .sameCauses (n .held) ∙ y .viewAt (number k 1) v .receiverCauses (omega (arith, n .made)) (omega arith);
+            asserter = y .contentsAt p (number k 1) (n .low) v .sameActor (has-kept (after u (steps ++ further)) p (number k 1) (n .held)) ∙ x .to;
+            word = y .contentsAt p (number k 1) (n .low) v .sameWord (has-kept (after u (steps ++ further)) p (number k 1) (n .held)) ∙ x .heard (omega (arith, n .past));
+            causes = y .contentsAt p (number k 1) (n .low) v .sameCauses (has-kept (after u (steps ++ further)) p (number k 1) (n .held)) ∙ y .viewAt (number k 1) v .receiverCauses (omega (arith, n .made)) (omega arith);
           };
     }

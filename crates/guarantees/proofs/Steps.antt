@@ -21,7 +21,7 @@ use Rattle.keeps.proofs.Keeps.{keeps}
 use Rattle.protocol.specs.Step.{numberOf, afterOf, ruleOf, stepOf}
 use Rattle.protocol.specs.declared.Step.{Step}
 use Rattle.guarantees.proofs.Turns.{Turn, stays, turns}
-use Rattle.guarantees.proofs.Reached.{Reached, both-kept, causes-kept, Key, old, new, key, new-sender, new-receiver}
+use Rattle.guarantees.proofs.Reached.{Reached, backed-kept, both-kept, causes-kept, Key, old, new, key, new-sender, new-receiver}
 
 -- what holds of a machine and of what a rule gives when it is taken holds after a step
 pub by-step : (P : State → Type 0) (m : State) (s : Step) → brokenOf m ≡ false → P m → (numberOf m s ≡ 0 → P (afterOf m s)) → P (stepOf m s .state)
@@ -44,7 +44,7 @@ pub data Move (m : State) (s : Step) (n : State) (v : ℕ) : Type 0 where
 pub step-reached : (m : State) → Reached m → (s : Step) → Reached (stepOf m s .state)
 step-reached m c s =
     by-step Reached m s (c .fine) c
-    (λ e. record { fine = keeps m s (c .fine) e; everywhere = both-kept m c s e .0; homes = both-kept m c s e .1; causes = causes-kept m c s e })
+    (λ e. record { fine = keeps m s (c .fine) e; everywhere = both-kept m c s e .0; homes = both-kept m c s e .1; causes = causes-kept m c s e; backed = backed-kept m c s e })
 
 -- what a new view is
 made-view : (m : State) → Reached m → (s : Step) → numberOf m s ≡ 0 → (v : ℕ) → m .made * 2 ≤ v → view (afterOf m s) v .phase ≤ 1

@@ -31,11 +31,13 @@ use Rattle.protocol.specs.TakeUpdate.{updateTaken}
 use Rattle.protocol.specs.TakeUack.{uackTaken}
 use Rattle.protocol.specs.Expire.{expired}
 use Rattle.protocol.specs.Lose.{lost, copies}
+use Rattle.protocol.specs.Sweep.{swept}
 use Rattle.protocol.specs.Crash.{crashed}
 use Rattle.protocol.specs.Restart.{restarted}
+use Rattle.protocol.specs.Checkpoint.{checkpointed}
 use Rattle.protocol.specs.Step.{numberOf, afterOf}
 use Rattle.protocol.specs.declared.Step.{Step}
-use Rattle.protocol.specs.declared.Step.the-variants.{Send, Receive, PreCheck, SendRecord, Timeout, TakeRecord, TakeAck, PostCheck, TakeRepair, SendUpdate, TakeUpdate, TakeUack, Expire, Lose, Crash, Restart}
+use Rattle.protocol.specs.declared.Step.the-variants.{Send, Receive, PreCheck, SendRecord, Timeout, TakeRecord, TakeAck, PostCheck, TakeRepair, SendUpdate, TakeUpdate, TakeUack, Expire, Lose, Crash, Restart, Checkpoint}
 use Rattle.keeps.proofs.Conditions.{taken-when}
 use Rattle.guarantees.proofs.Heads.{Headed, and-true, headed}
 
@@ -67,7 +69,7 @@ module _ (m : State) (u : Unbroken m) (v : ℕ) (h : v < m .made * 2) where
       subst P (sym x) (f (rw e (g .phase)) (rw e (ap (head m) (sym (g .owner)))))
 
   pub turns : (s : Step) → numberOf m s ≡ 0 → Turn m s v (view (afterOf m s) v)
-  unfolding sent receivedOf preChecked recordSent timedOut recordTaken ackTaken postChecked repairTaken updateSent updateTaken uackTaken expired lost crashed restarted
+  unfolding sent receivedOf preChecked recordSent timedOut recordTaken ackTaken postChecked repairTaken updateSent updateTaken uackTaken expired lost swept crashed restarted checkpointed
   turns (Send from to own word causes) e =
       let t = taken-when m (Send from to own word causes) e in
       let room = t .room in
@@ -119,3 +121,4 @@ module _ (m : State) (u : Unbroken m) (v : ℕ) (h : v < m .made * 2) where
       go n false false false = stays
   turns (Crash p) e = stays
   turns (Restart p) e = stays
+  turns (Checkpoint p) e = stays

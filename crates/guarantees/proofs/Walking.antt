@@ -13,13 +13,14 @@ use lib.Dec.{eqb}
 use lib.ListN.{getD, take}
 use lib.Seq.{getD-set-other}
 use Rattle.protocol.specs.Words.{pick, bit, one, times}
-use Rattle.protocol.specs.Slots.{number, view, contents, causeLinks, home, queue, standing}
+use Rattle.protocol.specs.Slots.{number, view, isLasting, lastingContents, lastingCauseLinks, home, queue, standing}
 use Rattle.protocol.specs.Setup.{answered}
 use Rattle.protocol.specs.Closed.{closedOf}
 use Rattle.unbroken.specs.Unbroken.{Unbroken}
 use Rattle.protocol.specs.declared.State.{State}
 use Rattle.protocol.specs.declared.Setup.{Setup}
 use Rattle.unbroken.proofs.Laws.{unbroken}
+use Rattle.unbroken.proofs.Laws.Has.{has-kept}
 use Rattle.protocol.specs.declared.Step.{Step}
 use Rattle.protocol.specs.Run.{freshOf}
 use Rattle.guarantees.specs.Acknowledged.{Legal, after}
@@ -35,15 +36,11 @@ use Rattle.protocol.specs.Walk.{added, spoiled, lookedUp, foundOf, causesHeld, 
 use Rattle.guarantees.proofs.Heads.{and-true, absurd-eq}
 use Rattle.guarantees.proofs.Causes.{Cause}
 use Rattle.guarantees.proofs.Reached.{Reached, Causes}
-use Rattle.guarantees.proofs.Demand.{There, there, reached}
+use Rattle.guarantees.proofs.Demand.{There, there, flag, reached}
 use Rattle.reads.proofs.Some.{ran-append}
 use Rattle.guarantees.proofs.Sent.{sent-run, told, told-on}
 use Rattle.guarantees.proofs.Drained.{the-drain}
 use Rattle.guarantees.proofs.Closing.{Rests, closed-of, accurate}
-
-flag : (b : Bool) → one b ≡ 1 → b ≡ true
-flag true e = refl
-flag false e = absurd (let z : ⊥ = omega arith in z)
 
 -- what is picked of two that are fine is fine
 both-fine : (b : Bool) (x y : Met) → x .fine ≡ true → y .fine ≡ true → pick b x y .fine ≡ true
@@ -88,8 +85,8 @@ module _ (m : State) (c : Reached m) (Q : ℕ → Type 0) (z : Closing m Q) wher
 
     causes-held : causesHeld m k (view m (number k 0) .store + 1) ≡ view m (number k 0) .causes
     causes-held =
-        ap (λ (p : ℕ). contents m p (number k 0) .causes) at-store
-        ∙ (u .contentsAt (view m (number k 0) .store) (number k 0) (sender .low) hv .sameCauses (sender .held))
+        ap (λ (p : ℕ). lastingContents m p (number k 0) .causes) at-store
+        ∙ (u .contentsAt (view m (number k 0) .store) (number k 0) (sender .low) hv .sameCauses (has-kept m (view m (number k 0) .store) (number k 0) (sender .held)))
 
     cause-in : (j : ℕ) → j < 16 → bit (view m (number k 0) .causes) j ≡ true → Q j
     cause-in j hj b = z .causes k j q (record { low = hj; set = b })
@@ -100,7 +97,7 @@ module _ (m : State) (c : Reached m) (Q : ℕ → Type 0) (z : Closing m Q) wher
     hop j hj b =
         let p = view m (number k 0) .store in
         let r = closed-of m j (z .closed j (cause-in j hj b)) in
-        let a : getD (causeLinks m p k) j 0 ≡ view m (number j 1) .store = u .linksAt p k (sender .low) (omega (arith, hk, u .made16)) .sameLinks j hj (sender .held) ∙ causes-at k j hk hj b .right (omega (arith, rests .0 .phase)) in
+        let a : getD (lastingCauseLinks m p k) j 0 ≡ view m (number j 1) .store = u .linksAt p k (sender .low) (omega (arith, hk, u .made16)) .sameLinks j hj (has-kept m p (number k 0) (sender .held)) ∙ causes-at k j hk hj b .right (omega (arith, rests .0 .phase)) in
         rw (at-store, a, there m c j 1 (omega arith) (omega (arith, r .1 .phase)) .held) (accurate m u (c .everywhere) j 1 (omega arith) (r .1) (r .0))
 
   each-fine : (visit : ℕ → Met → Met) (causes n j : ℕ) (w : Met) → ((i : ℕ) (x : Met) → i < j + n → bit causes i ≡ true → x .fine ≡ true → visit i x .fine ≡ true) → w .fine ≡ true → each visit causes n j w .fine ≡ true
@@ -175,7 +172,7 @@ module _ (m : State) where
       go true e f =
           each-closed (toCause (visitOf depth m) m k link) (causesHeld m k link) k 0 (added (lookedUp w) k)
           (λ i x g. both-closed (isDue x i) (visitOf depth m i (hopOf m k link i) (lookedUp x)) x (f i (lookedUp x) (looked-closed x g)) g)
-          (added-closed k (lookedUp w) (and-true (not (eqb link 0) && contents m (link - 1) (number k 0) .held) (closedOf m k) e .1) (looked-closed w h))
+          (added-closed k (lookedUp w) (and-true (not (eqb link 0) && isLasting m (link - 1) (number k 0)) (closedOf m k) e .1) (looked-closed w h))
       go false e f = spoiled-closed w h
 
   none-closed : MetClosed unmet

@@ -5,12 +5,14 @@ use mathlib.Core.Logic.{_≢_}
 use Prim.Native.Nat.{ℕ, _-_, _≤_, _<_}
 use native.Mathlib.Omega.{arith}
 use native.Mathlib.Decide.{ℕ-discrete}
-use Rattle.protocol.specs.Words.{one}
-use Rattle.protocol.specs.Slots.{number, statusNumber, view, repair, entry, message, contents, viewlink, ackCopies, updateCopies, uackCopies}
+use lib.ListN.{getD}
+use Rattle.protocol.specs.Words.{one, bit}
+use Rattle.protocol.specs.Slots.{number, statusNumber, view, repair, entry, message, shelf, ackCopies, updateCopies, uackCopies}
 use Rattle.protocol.specs.declared.State.{State}
 use Rattle.protocol.specs.declared.View.{View}
 use Rattle.protocol.specs.declared.Repair.{Repair}
 use Rattle.protocol.specs.declared.Entry.{Entry}
+use Rattle.protocol.specs.declared.Store.{Store}
 use Rattle.guarantees.proofs.Local.{Job, Cell, Good}
 
 abbrev pub jobOf : View → Repair → Entry → Job
@@ -31,8 +33,23 @@ jobOf w r e =
 abbrev pub job : State → ℕ → Job
 job m v = jobOf (view m v) (repair m v) (entry m v)
 
+-- what a store has of a view, and the copies in flight
+abbrev pub cellOf : Store → ℕ → (acks updates uacks : ℕ) → Cell
+cellOf s v a u k =
+    record {
+      held = one (bit (s .held) v);
+      link = getD (s .viewlinks) v 0;
+      kept = one (bit (s .kept) v);
+      saved = getD (s .keptlinks) v 0;
+      owesAck = one (bit (s .acksowed) v);
+      owesUack = one (bit (s .uacksowed) v);
+      acks = a;
+      updates = u;
+      uacks = k;
+    }
+
 abbrev pub cell : State → ℕ → ℕ → Cell
-cell m p v = record { held = one (contents m p v .held); link = viewlink m p v; acks = ackCopies m p v; updates = updateCopies m p v; uacks = uackCopies m p v }
+cell m p v = cellOf (shelf m p) v (ackCopies m p v) (updateCopies m p v) (uackCopies m p v)
 
 abbrev pub Here : State → ℕ → ℕ → ℕ → Type 0
 Here m k r p = Good (job m (number k r)) (cell m p (number k r)) (job m (number k (1 - r))) (cell m p (number k (1 - r))) (message m k .own) p
@@ -90,3 +107,17 @@ module _ (m n : State) (k r : ℕ) (w x : Job) (c d : ℕ → Cell) (hr : r < 2)
             t .farSent j f,
           )
           (inv j s p (old j hj f) hs hp)
+
+-- the machine n is m but for the store p
+module _ (m n : State) (p : ℕ) (made : n .made ≡ m .made) (fits : m .made ≤ 16) (jobs : (v : ℕ) → job n v ≡ job m v) (sent : (k : ℕ) → message n k .own ≡ message m k .own)
+    (far : (q v : ℕ) → q < 8 → v < 32 → q ≢ p → cell n q v ≡ cell m q v) where
+  pub at-one-store : Everywhere m → ((k r : ℕ) → k < m .made → r < 2 → p < 8 → Good (job m (number k r)) (cell n p (number k r)) (job m (number k (1 - r))) (cell n p (number k (1 - r))) (message m k .own) p) → Everywhere n
+  unfolding Everywhere
+  at-one-store inv near k r q hk hr hq = rw (jobs (number k r), jobs (number k (1 - r)), sent k) (go (ℕ-discrete q p))
+    where
+      hm : k < m .made
+      hm = omega arith
+
+      go : Dec (q ≡ p) → Good (job m (number k r)) (cell n q (number k r)) (job m (number k (1 - r))) (cell n q (number k (1 - r))) (message m k .own) q
+      go (yes e) = rw e (near k r hm hr (omega arith))
+      go (no f) = rw (far q (number k r) hq (omega arith) f, far q (number k (1 - r)) hq (omega arith) f) (inv k r q hm hr hq)

@@ -1,5 +1,6 @@
 -- Demand 3, sentence by sentence. The proofs stand in proofs/. What is said of the drain and of the walk is said of any, so that it can
--- be said of a wrong one too (crate bites); the demand is about document 01's, `drainOf` and `walkOf`.
+-- be said of a wrong one too (crate bites); the demand is about document 01's, `drainOf` and `walkOf`. What a store holds is said of its
+-- checkpointed state, as document 02 asks (K4).
 use Prim.Native.Nat.{ℕ, zero, suc, _+_, _-_, _*_, _≤_, _<_}
 use mathlib.Core.Path.{_≡_}
 use mathlib.Core.Logic.{_≢_}
@@ -7,7 +8,7 @@ use mathlib.Core.Bool.{true}
 use mathlib.Core.List.{List, [], _∷_, _++_}
 use lib.ListN.{length, getD, replicate}
 use Rattle.protocol.specs.Words.{pick, bit, times}
-use Rattle.protocol.specs.Slots.{number, statusNumber, isUp, view, lastingContents as contents, lastingCauseLinks as causeLinks, lastingViewlink as viewlink}
+use Rattle.protocol.specs.Slots.{number, statusNumber, isUp, view, entry, ackCopies, uackCopies, isHeld, isLasting, lastingContents as contents, lastingCauseLinks as causeLinks, lastingViewlink as viewlink}
 use Rattle.protocol.specs.Setup.{emptyMachine, setupOf}
 use Rattle.protocol.specs.Broken.{brokenOf}
 use Rattle.protocol.specs.Closed.{closedOf}
@@ -20,9 +21,10 @@ use Rattle.protocol.specs.declared.Walked.{Walked}
 use Rattle.protocol.specs.Step.{stepOf}
 use Rattle.protocol.specs.declared.Step.{Step}
 use Rattle.protocol.specs.Book.{setupRead}
-use Rattle.protocol.specs.declared.Step.the-variants.{Restart}
+use Rattle.protocol.specs.declared.Step.the-variants.{Crash, Restart}
 use Rattle.protocol.specs.Run.{ran, answers, legalSetup, freshOf, runOf, bufferOf, stepsRead}
 use Rattle.protocol.specs.Drain.{allUp, drainOf}
+use Rattle.keeps.specs.Lasting.{Backed, Lasts}
 use Rattle.drains.specs.Drains.{stepsOf}
 use Rattle.protocol.specs.Walk.{walkOf}
 use Rattle.reaches.specs.Reaches.{keysOf}
@@ -42,7 +44,7 @@ pub record OneAcknowledgement : Type 0 where
 
 -- a store holds, for a view, the asserter, data, causes and cause links of a record
 pub record Holds (m : State) (p k r : ℕ) (w : View) : Type 0 where
-  pub held : contents m p (number k r) .held ≡ true
+  pub held : isLasting m p (number k r) ≡ true
   pub asserter : contents m p (number k r) .asserter ≡ w .actor
   pub word : contents m p (number k r) .word ≡ w .word
   pub causes : contents m p (number k r) .causes ≡ w .causes
@@ -55,11 +57,42 @@ KeptForEver =
     (u : Setup) → Legal u → (steps : List Step) (step : Step) (k r p : ℕ) → r < 2 → accepted (after u steps) step (number k r) ≡ p ∷ []
     → (further : List Step) → Holds (after u (steps ++ (step ∷ further))) p k r (view (after u steps) (number k r))
 
+-- .. since an ack says that they are in the checkpointed state: in every machine that a run reached, where an ack of a view's record is
+-- in flight from a store, its checkpointed state has that view's contents with a viewlink beside them; and where a uack is, the
+-- checkpointed viewlink of the opposite view there is the entry's own store.
+abbrev pub AckInFlight : Type 0
+AckInFlight =
+    (u : Setup) → Legal u → (steps : List Step) (k r p : ℕ) → k < 16 → r < 2 → p < 8 → 1 ≤ ackCopies (after u steps) p (number k r)
+    → Holds (after u steps) p k r (view (after u steps) (number k r)) × (1 ≤ viewlink (after u steps) p (number k r))
+
+abbrev pub UackInFlight : Type 0
+UackInFlight =
+    (u : Setup) → Legal u → (steps : List Step) (k r p : ℕ) → k < 16 → r < 2 → p < 8 → 1 ≤ uackCopies (after u steps) p (number k r)
+    → viewlink (after u steps) p (number k (1 - r)) ≡ entry (after u steps) (number k r) .own + 1
+
+-- .. so a crash loses nothing that was acknowledged: if the ack of a view's record was accepted from store p, then after any further
+-- steps and a crash of p both of its states have the contents that the record had, the checkpointed one with the viewlink that it had.
+pub record Survives (m n : State) (p k r : ℕ) (w : View) : Type 0 where
+  pub checkpointed : Holds n p k r w
+  pub working : isHeld n p (number k r) ≡ true
+  pub link : viewlink n p (number k r) ≡ viewlink m p (number k r)
+
+abbrev pub CrashLosesNothing : Type 0
+CrashLosesNothing =
+    (u : Setup) → Legal u → (steps : List Step) (step : Step) (k r p : ℕ) → r < 2 → accepted (after u steps) step (number k r) ≡ p ∷ []
+    → (further : List Step)
+    → Survives (after u (steps ++ (step ∷ further))) (after u (steps ++ (step ∷ (further ++ (Crash p ∷ []))))) p k r (view (after u steps) (number k r))
+
+-- .. and whatever is in a checkpointed state, acknowledged or not, stays after any further steps, since the working state has it too.
+pub record LastsForEver : Type 0 where
+  pub backed : (u : Setup) → Legal u → (steps : List Step) → Backed (after u steps)
+  pub lasts : (u : Setup) → Legal u → (steps further : List Step) → Lasts (after u steps) (after u (steps ++ further))
+
 -- .. and they are what was sent. As many sends were taken as interactions are made; and in the store that acknowledged a view of the
 -- k-th, after any further steps: the sender's view has its from for asserter, its data and its causes, the receiver's view its to,
 -- the same data and no causes.
 pub record Asserts (m : State) (p v by said caused : ℕ) : Type 0 where
-  pub held : contents m p v .held ≡ true
+  pub held : isLasting m p v ≡ true
   pub asserter : contents m p v .asserter ≡ by
   pub word : contents m p v .word ≡ said
   pub causes : contents m p v .causes ≡ caused
@@ -98,7 +131,7 @@ ViewLinks =
 -- (A viewlink is p + 1 for store p, a cause link p.)
 pub record Leads (m : State) (p k r : ℕ) : Type 0 where
   pub linked : 1 ≤ viewlink m p (number k r)
-  pub held : contents m (viewlink m p (number k r) - 1) (number k (1 - r)) .held ≡ true
+  pub held : isLasting m (viewlink m p (number k r) - 1) (number k (1 - r)) ≡ true
   pub back : viewlink m (viewlink m p (number k r) - 1) (number k (1 - r)) ≡ p + 1
 
 pub record Lookup : Type 0 where
@@ -106,16 +139,16 @@ pub record Lookup : Type 0 where
       → AckedBy u steps (number k r) p → Leads (after u (steps ++ further)) p k r
   pub cause : (u : Setup) → Legal u → (steps further : List Step) (k p : ℕ) → AckedBy u steps (number k 0) p
       → (j : ℕ) → j < 16 → bit (contents (after u (steps ++ further)) p (number k 0) .causes) j ≡ true
-      → (contents (after u (steps ++ further)) (getD (causeLinks (after u (steps ++ further)) p k) j 0) (number j 1) .held ≡ true)
+      → (isLasting (after u (steps ++ further)) (getD (causeLinks (after u (steps ++ further)) p k) j 0) (number j 1) ≡ true)
       × AckedBy u (steps ++ further) (number j 1) (getD (causeLinks (after u (steps ++ further)) p k) j 0)
 
--- 6. The drain. If all stores are up, the drain's machine has every interaction closed; it takes at most 18 steps for each
+-- 6. The drain. If all stores are up, the drain's machine has every interaction closed; it takes at most 22 steps for each
 -- interaction made; the count that it reports is the number of steps that it took; and its machine is that of the run with its
 -- steps behind it, so 1 to 5 hold of it.
 pub record Drains (drain : State → Drained) (u : Setup) (steps : List Step) : Type 0 where
   pub answer : drain (after u steps) .answer ≡ 0
   pub closes : (k : ℕ) → k < after u steps .made → closedOf (drain (after u steps) .state) k ≡ true
-  pub bound : drain (after u steps) .count ≤ after u steps .made * 18
+  pub bound : drain (after u steps) .count ≤ after u steps .made * 22
   pub count : drain (after u steps) .count ≡ length (stepsOf (after u steps))
   pub run : drain (after u steps) .state ≡ after u (steps ++ stepsOf (after u steps))
   pub made : drain (after u steps) .state .made ≡ after u steps .made
@@ -127,7 +160,7 @@ abbrev pub TheDrain : Type 0
 TheDrain = DrainedBy drainOf
 
 -- .. and whatever is down, a machine that a run reached recovers: a restart is taken for each store that is down, then all stores
--- are up and the drain closes every interaction, in at most 8 steps and 18 for each interaction made.
+-- are up and the drain closes every interaction, in at most 8 steps and 22 for each interaction made.
 unfoldable pub restartsBelow : ℕ → State → List Step
 restartsBelow zero m = []
 restartsBelow (suc p) m = restartsBelow p m ++ pick (isUp m p) [] (Restart p ∷ [])
@@ -140,7 +173,7 @@ pub record Recovers (u : Setup) (steps : List Step) : Type 0 where
   pub up : allUp (after u (steps ++ restarts (after u steps))) ≡ true
   pub made : after u (steps ++ restarts (after u steps)) .made ≡ after u steps .made
   pub closes : (k : ℕ) → k < after u steps .made → closedOf (drainOf (after u (steps ++ restarts (after u steps))) .state) k ≡ true
-  pub bound : length (restarts (after u steps)) + drainOf (after u (steps ++ restarts (after u steps))) .count ≤ 8 + after u steps .made * 18
+  pub bound : length (restarts (after u steps)) + drainOf (after u (steps ++ restarts (after u steps))) .count ≤ 8 + after u steps .made * 22
 
 abbrev pub Recovery : Type 0
 Recovery = (u : Setup) → Legal u → (steps : List Step) → Recovers u steps
@@ -197,7 +230,7 @@ Books = (book : List ℕ) (room : ℕ) → runOf book room .answer ≡ 0 → Boo
 -- have this shape, which the gate looks at. All public calls, with the crate that has them:
 --   protocol: status_number, unset_view
 --   broken: legal, fresh, empty, is_broken
---   rules: look_back, Slots::rule (the two that `machine` is made of; the second has no equation, docs/ say why)
+--   rules: look_back, one_more, Slots::rule (what `machine` is made of; the last has no equation, docs/ say why)
 --   machine: Machine::empty, setup, broken, step; its joints step_unbroken and steps_unbroken, for machines that are not broken
 --   drain: drain. walk: walk. runs: run, with its buffer, and step_at
 --   listing: refused, listing. provn: write. pair_rule: check, is_rule

@@ -122,24 +122,57 @@ fn entry_line(v: usize, e: Entry) {
     }
 }
 
+fn has(set: u32, v: usize) -> bool
+    requires { ⌜ v < 32 ⌝ }
+{
+    (set >> v) % 2 == 1
+}
+
 fn contents_line(p: usize, v: usize, c: Contents, links: [u8; 16]) {
-    if c.held {
-        print::text(b"S");
-        print::field(p as u64);
-        print::view(v);
-        print::small(c.asserter);
-        print::field(c.word as u64);
-        print::causes(c.causes, links);
-        print::text(b"\n");
-    }
+    print::text(b"S");
+    print::field(p as u64);
+    print::view(v);
+    print::small(c.asserter);
+    print::field(c.word as u64);
+    print::causes(c.causes, links);
+    print::text(b"\n");
 }
 
 fn viewlink_line(p: usize, v: usize, link: u8) {
+    print::text(b"L");
+    print::field(p as u64);
+    print::view(v);
+    print::small(link);
+    print::text(b"\n");
+}
+
+// What one of a store's states has of a view; both lines begin with the same letters, and then their own.
+fn state_lines(
+    letters: &[u8],
+    p: usize,
+    v: usize,
+    held: bool,
+    c: Contents,
+    links: [u8; 16],
+    link: u8,
+) {
+    if held {
+        print::text(letters);
+        contents_line(p, v, c, links);
+    }
     if link != 0 {
-        print::text(b"L");
+        print::text(letters);
+        viewlink_line(p, v, link - 1);
+    }
+}
+
+fn notes_line(p: usize, v: usize, ack: bool, uack: bool) {
+    if ack || uack {
+        print::text(b"N");
         print::field(p as u64);
         print::view(v);
-        print::small(link - 1);
+        flag(ack);
+        flag(uack);
         print::text(b"\n");
     }
 }
@@ -158,16 +191,19 @@ fn copies_line(p: usize, v: usize, record: u8, ack: u8, update: u8, uack: u8) {
     print::text(b"\n");
 }
 
+// Working state, checkpointed state, notes, copies.
 fn place_lines(m: State, p: usize, v: usize)
     requires { ⌜ p < 8 ⌝ }
     requires { ⌜ v < 32 ⌝ }
 {
     let at = p * 32 + v;
     let s = m.shelves[p];
-    let kept = m.links[p * 16 + v / 2];
-    let links = kept.to;
-    contents_line(p, v, m.contents[at], links);
-    viewlink_line(p, v, s.viewlinks[v]);
+    let c = m.contents[at];
+    let l = m.links[p * 16 + v / 2];
+    let links = l.to;
+    state_lines(b"", p, v, has(s.held, v), c, links, s.viewlinks[v]);
+    state_lines(b"C", p, v, has(s.kept, v), c, links, s.keptlinks[v]);
+    notes_line(p, v, has(s.acksowed, v), has(s.uacksowed, v));
     copies_line(p, v, m.records[at], m.acks[at], m.updates[at], m.uacks[at]);
 }
 

@@ -30,16 +30,17 @@ use Rattle.protocol.specs.Expire.{expireNo}
 use Rattle.protocol.specs.Lose.{copies, loseNo}
 use Rattle.protocol.specs.Crash.{crashNo}
 use Rattle.protocol.specs.Restart.{restartNo}
+use Rattle.protocol.specs.Checkpoint.{checkpointNo}
 use Rattle.protocol.specs.Step.{numberOf, stepOf}
 use Rattle.protocol.specs.declared.Step.{Step}
-use Rattle.protocol.specs.declared.Step.the-variants.{Send, Receive, PreCheck, SendRecord, Timeout, TakeRecord, TakeAck, PostCheck, TakeRepair, SendUpdate, TakeUpdate, TakeUack, Expire, Lose, Crash, Restart}
+use Rattle.protocol.specs.declared.Step.the-variants.{Send, Receive, PreCheck, SendRecord, Timeout, TakeRecord, TakeAck, PostCheck, TakeRepair, SendUpdate, TakeUpdate, TakeUack, Expire, Lose, Crash, Restart, Checkpoint}
 use Rattle.unbroken.proofs.Laws.Every.{below-fails}
 use Rattle.unbroken.proofs.Laws.Tests.{by-test, not-both, or-else, or-of, nor-left, nor-right, not-of}
 use Rattle.unbroken.proofs.Laws.Says.{Says, eq-says, is-says, le-splits, zero-splits, put-says}
 use Rattle.keeps.proofs.Conditions.{waiting, to-send, unless, spent-splits, head-says, received-says, causes-say}
 use Rattle.keeps.proofs.Cases.{step-case}
 use Rattle.unbroken.specs.Lowest.{IsLowest}
-use Rattle.keeps.specs.Applies.{Thing, actor, store, key, role, what, named, In, Needs, Applies, isBroken, isOutside, toItself, isFull, recordDown, updateDown, crashDown, restartUp, isMissing, ownUnlisted, timeoutUnlisted, timeoutCurrent, unreceived, StepRefusals}
+use Rattle.keeps.specs.Applies.{Thing, actor, store, key, role, what, named, In, Needs, Applies, isBroken, isOutside, toItself, isFull, recordDown, updateDown, crashDown, checkpointDown, restartUp, isMissing, ownUnlisted, timeoutUnlisted, timeoutCurrent, unreceived, StepRefusals}
 use Rattle.unbroken.proofs.Laws.Lowest.{lowest, lowest-put, lacks, Test, _if_, first, rising, Has, Each, each-has, has-low, tests-lowest}
 
 module _ (m : State) where
@@ -115,6 +116,18 @@ module _ (m : State) where
         tells = (λ h. d (not-true (isUp m p) h), (λ h. isMissing (y .tells h), tt));
       }
 
+  -- a kind that needs a store that is up and no more
+  unfoldable onlyUp : (s : Step) (p : ℕ) → ((Needs m s → ⊥) → ⊥) → (isUp m p ≡ false → Applies m s 5)
+      → numberOf m s ≡ first ((2 if anyOut (named s)) ∷ (5 if not (isUp m p)) ∷ []) → Rows s
+  onlyUp s p y d e =
+      record {
+        tests = (5 if not (isUp m p)) ∷ [];
+        rises = refl;
+        number = e;
+        missing = λ n. absurd (y n);
+        tells = (λ h. d (not-true (isUp m p) h), tt);
+      }
+
   -- a copy isn't there
   no-copy : (n : ℕ) → Says (eqb n 0) (1 ≤ n → ⊥)
   no-copy n = lacks (zero-splits n)
@@ -135,7 +148,7 @@ module _ (m : State) where
       by-test (bit (list m a) p) (λ b. timeoutCurrent a p (spent b .0) (spent b .1)) (λ b. timeoutUnlisted a p b)
 
   unfoldable rows : (s : Step) → Rows s
-  unfolding sendNo receiveNo preCheckNo sendRecordNo timeoutNo takeRecordNo takeAckNo postCheckNo takeRepairNo sendUpdateNo takeUpdateNo takeUackNo expireNo loseNo crashNo restartNo
+  unfolding sendNo receiveNo preCheckNo sendRecordNo timeoutNo takeRecordNo takeAckNo postCheckNo takeRepairNo sendUpdateNo takeUpdateNo takeUackNo expireNo loseNo crashNo restartNo checkpointNo
   rows (Send from to own word causes) =
       record {
         tests = (3 if eqb from to) ∷ (4 if leb 16 (m .made)) ∷ (8 if not (bit (list m from) own)) ∷ (9 if not (causesKnown m from causes)) ∷ [];
@@ -174,23 +187,17 @@ module _ (m : State) where
       let e : Entry = entry m (number k r) in
       plain (Expire k r) (unless (put-says (eq-says (statusNumber (e .status)) 2) (waiting (e .status)) (λ h. ap statusNumber h)) .holds) refl
   rows (Lose w p k r) = plain (Lose w p k r) (no-copy (copies m w p (number k r))) refl
-  rows (Crash p) =
-      record {
-        tests = (5 if not (isUp m p)) ∷ [];
-        rises = refl;
-        number = refl;
-        missing = λ n. absurd (n tt);
-        tells = (λ h. crashDown p (not-true (isUp m p) h), tt);
-      }
+  rows (Crash p) = onlyUp (Crash p) p (λ n. n tt) (crashDown p) refl
   rows (Restart p) =
       record { tests = (6 if isUp m p) ∷ []; rises = refl; number = refl; missing = λ n. absurd (n tt); tells = (λ h. restartUp p h, tt) }
+  rows (Checkpoint p) = onlyUp (Checkpoint p) p (λ n. n tt) (checkpointDown p) refl
 
   -- all tests of a step, and that they say what the table does
   abbrev all : Step → List Test
   all s = (1 if brokenOf m) ∷ (2 if anyOut (named s)) ∷ rows s .tests
 
   told : {s : Step} {n : ℕ} → Applies m s n → Has n (all s)
-  unfolding rows plainUp
+  unfolding rows plainUp onlyUp
   told (isBroken e) = inl (refl, e)
   told (isOutside {s = s} x h n) = inr (inl (refl, any-told (named s) x h n))
   told (toItself from to own word causes e) = inr (inr (inl (refl, eq-eqb from to e)))
@@ -198,6 +205,7 @@ module _ (m : State) where
   told (recordDown p k r e) = inr (inr (inl (refl, not-of (isUp m p) e)))
   told (updateDown p k r e) = inr (inr (inl (refl, not-of (isUp m p) e)))
   told (crashDown p e) = inr (inr (inl (refl, not-of (isUp m p) e)))
+  told (checkpointDown p e) = inr (inr (inl (refl, not-of (isUp m p) e)))
   told (restartUp p e) = inr (inr (inl (refl, e)))
   told (isMissing {s = s} n) = inr (inr (rows s .missing n))
   told (ownUnlisted from to own word causes e) = inr (inr (inr (inr (inl (refl, not-of (bit (list m from) own) e)))))

@@ -1,6 +1,6 @@
 -- A change leaves every slot as it must be; each taken step is a chain of changes; so what every change keeps, every step keeps.
 -- The kinds are walked here, once. Assumes nothing.
-use Prim.Native.Nat.{ℕ, _+_, _-_, _≤_, _<_}
+use Prim.Native.Nat.{ℕ, _-_, _≤_, _<_}
 use mathlib.Core.Path.{_≡_, sym, ap, subst, _∙_}
 use mathlib.Core.Bool.{Bool, true, false, _&&_}
 use mathlib.Core.List.{List}
@@ -9,14 +9,13 @@ use lib.Seq.{getD-set-same, set-getD}
 use lib.Dec.{eqb}
 use borrow.Author.Tests.{eqb-true}
 use Rattle.protocol.specs.Words.{pick}
-use Rattle.protocol.specs.Slots.{number, place, noView, noEntry, noContents, statusNumber, view, queue, entry, recordCopies, ackCopies, updateCopies, uackCopies, contents, viewlink}
-use Rattle.protocol.specs.Writes.{withView, withEntry, withEntries, withViewlink, withAckCopies, withUackCopies, withRecordCopies, withUpdateCopies}
+use Rattle.protocol.specs.Slots.{number, noView, noEntry, statusNumber, view, queue, entry, recordCopies, ackCopies, updateCopies, uackCopies}
+use Rattle.protocol.specs.Writes.{withView, withEntry, withEntries, withAckCopies, withUackCopies, withRecordCopies, withUpdateCopies}
 use Rattle.protocol.specs.Broken.{brokenOf}
-use Rattle.unbroken.specs.Unbroken.{Unbroken}
+use Rattle.unbroken.specs.Unbroken.{CopySlot, Unbroken}
 use Rattle.protocol.specs.declared.State.{State}
 use Rattle.protocol.specs.declared.View.{View}
 use Rattle.protocol.specs.declared.Entry.{Entry}
-use Rattle.protocol.specs.declared.Contents.{Contents}
 use Rattle.protocol.specs.declared.Status.{Status}
 use Rattle.protocol.specs.declared.Status.the-variants.{ToSend, Waiting, Done}
 use Rattle.unbroken.proofs.Laws.{unbroken}
@@ -27,27 +26,23 @@ use Rattle.protocol.specs.Rule.{head, headView, more}
 use Rattle.protocol.specs.SendUpdate.{inStatus, updateSent}
 use Rattle.protocol.specs.TakeUack.{finishedEntry, uackTaken}
 use Rattle.protocol.specs.TakeUpdate.{updateTaken}
-use Rattle.protocol.specs.TakeRecord.{writtenContents, writtenViewlink, recordTaken}
+use Rattle.protocol.specs.TakeRecord.{recordTaken}
 use Rattle.protocol.specs.TakeAck.{isHead, accepts, ackedView, ackTaken}
 use Rattle.protocol.specs.SendRecord.{recordSent}
 use Rattle.protocol.specs.PreCheck.{checkedView, preChecked}
 use Rattle.protocol.specs.Timeout.{timedView, timedOut}
 use Rattle.protocol.specs.Expire.{expired}
 use Rattle.protocol.specs.Lose.{lost}
-use Rattle.protocol.specs.Crash.{crashed}
-use Rattle.protocol.specs.Restart.{restarted}
 use Rattle.protocol.specs.Step.{numberOf, afterOf, stepOf}
 use Rattle.protocol.specs.declared.Step.{Step}
-use Rattle.protocol.specs.declared.Step.the-variants.{Send, Receive, PreCheck, SendRecord, Timeout, TakeRecord, TakeAck, PostCheck, TakeRepair, SendUpdate, TakeUpdate, TakeUack, Expire, Lose, Crash, Restart}
+use Rattle.protocol.specs.declared.Step.the-variants.{Send, Receive, PreCheck, SendRecord, Timeout, TakeRecord, TakeAck, PostCheck, TakeRepair, SendUpdate, TakeUpdate, TakeUack, Expire, Lose, Crash, Restart, Checkpoint}
 use Rattle.keeps.specs.Taken.{HeadIn, PlaceOf, TakeRecordTaken, TakeAckTaken, SendUpdateTaken, TakeUpdateTaken, TakeUackTaken, LoseTaken, Taken}
-use Rattle.keeps.specs.Change.{HeadMove, isChecked, isSent, isTimed, isAcked, withFlight, FlightMove, recordComes, recordGoes, ackComes, ackGoes, updateComes, updateGoes, uackComes, uackGoes}
-use Rattle.keeps.specs.Change.{withHeld, LinkMove, isWritten, isUpdated, StatusMove, isWaiting, isExpired, isDone, Change, onUp, onSend, onReceive, onHead, onSettle, onFlight, onHeld, onViewlink, onStatus, onRepair, Changes, nothing, then}
-use Rattle.keeps.proofs.Index.{place-same}
+use Rattle.keeps.specs.Change.{HeadMove, isChecked, isSent, isTimed, isAcked, withFlight, FlightMove, recordComes, updateComes, recordsThere, acksThere, updatesThere, uacksThere}
+use Rattle.keeps.specs.Change.{withTaken, withUpdated, StatusMove, isWaiting, isExpired, isDone, Change, onSend, onReceive, onHead, onSettle, onFlight, onTaken, onUpdated, onStatus, onRepair, onCrash, onRestart, onCheckpoint, Changes, nothing, then}
 use Rattle.keeps.proofs.Conditions.{taken-when, waiting}
-use Rattle.unbroken.proofs.Shelves.{link-same}
-use Rattle.keeps.proofs.Writes.{up-write, record-write, ack-write, update-write, uack-write, viewlink-write}
+use Rattle.keeps.proofs.Writes.{record-write, ack-write, update-write, uack-write}
 use Rattle.keeps.proofs.Heads.{head-32, head-from, head-made}
-use Rattle.keeps.proofs.Stores.{fewer-copies, more-copies, store-8, number-32, written-held, holds, linked}
+use Rattle.keeps.proofs.Stores.{other-copies, more-copies, store-8, number-32, taken-kept, updated-kept, crashed-kept, restarted-kept, checkpointed-kept}
 use Rattle.keeps.proofs.Coordinator.{status-write, take-repair-kept}
 use Rattle.keeps.proofs.Actors.{phase-write, pre-check-kept, timeout-kept, same-view}
 use Rattle.keeps.proofs.PostCheck.{post-check-kept}
@@ -75,37 +70,18 @@ module _ (m : State) (s : Unbroken m) where
       let hp = store-8 m s p hs in
       let few = s .made16 in
       record-write m s p v hp (omega arith) (more (recordCopies m p v)) (more-copies (s .recordAt p v hp (omega arith)) hs (omega arith))
-  flight-kept records acks updates uacks (recordGoes p k r o c) =
-      record-write m s p (number k r) (place-8 p k r o) (view-32 p k r o) (recordCopies m p (number k r) - 1) (fewer-copies (s .recordAt p (number k r) (place-8 p k r o) (view-32 p k r o)))
-  flight-kept records acks updates uacks (ackComes p k r o h l) =
-      ack-write m s p (number k r) (place-8 p k r o) (view-32 p k r o) (more (ackCopies m p (number k r)))
-      (more-copies (s .ackAt p (number k r) (place-8 p k r o) (view-32 p k r o)) (o .storeIn) (s .contentsAt p (number k r) (place-8 p k r o) (view-32 p k r o) .ready h))
-  flight-kept records acks updates uacks (ackGoes p k r o c) =
-      ack-write m s p (number k r) (place-8 p k r o) (view-32 p k r o) (ackCopies m p (number k r) - 1) (fewer-copies (s .ackAt p (number k r) (place-8 p k r o) (view-32 p k r o)))
   flight-kept records acks updates uacks (updateComes p k r o e f) =
       let n = ap statusNumber e in
       update-write m s p (number k r) (place-8 p k r o) (view-32 p k r o) (more (updateCopies m p (number k r)))
       (more-copies (s .updateAt p (number k r) (place-8 p k r o) (view-32 p k r o)) (o .storeIn) (omega arith))
-  flight-kept records acks updates uacks (updateGoes p k r o c) =
-      update-write m s p (number k r) (place-8 p k r o) (view-32 p k r o) (updateCopies m p (number k r) - 1) (fewer-copies (s .updateAt p (number k r) (place-8 p k r o) (view-32 p k r o)))
-  flight-kept records acks updates uacks (uackComes p k r o c l) =
-      uack-write m s p (number k r) (place-8 p k r o) (view-32 p k r o) (more (uackCopies m p (number k r)))
-      (more-copies (s .uackAt p (number k r) (place-8 p k r o) (view-32 p k r o)) (o .storeIn) (s .updateAt p (number k r) (place-8 p k r o) (view-32 p k r o) .atView c))
-  flight-kept records acks updates uacks (uackGoes p k r o c) =
-      uack-write m s p (number k r) (place-8 p k r o) (view-32 p k r o) (uackCopies m p (number k r) - 1) (fewer-copies (s .uackAt p (number k r) (place-8 p k r o) (view-32 p k r o)))
-
-  link-kept : (p k v link : ℕ) → p < m .stores → k < m .made → LinkMove m p k v link → Unbroken (withViewlink m p v link)
-  link-kept p k v link hs hk (isWritten r hr c h) =
-      let hp = store-8 m s p hs in
-      let hv = number-32 m s k r hk hr in
-      viewlink-write m s p (number k r) hp hv (writtenViewlink (viewlink m p (number k r)) (view m (number k r)))
-      (linked m s p k hp hs hk (number k r) hv (omega arith) (s .recordAt p (number k r) hp hv .atView c))
-  link-kept p k v link hs hk (isUpdated r hr c) =
-      let hp = store-8 m s p hs in
-      let hv = number-32 m s k r hk hr in
-      let own = s .entryAt (number k r) hv .ownIn (s .updateAt p (number k r) hp hv .atView c) in
-      viewlink-write m s p (number k (1 - r)) hp (number-32 m s k (1 - r) hk (omega arith)) (entry m (number k r) .own + 1)
-      (record { linkIn = omega arith; atStore = λ h. hs; atView = λ h. omega arith })
+  flight-kept records acks updates uacks (recordsThere p k r n o c few) =
+      record-write m s p (number k r) (place-8 p k r o) (view-32 p k r o) n (other-copies (s .recordAt p (number k r) (place-8 p k r o) (view-32 p k r o)) c n few)
+  flight-kept records acks updates uacks (acksThere p k r n o c few) =
+      ack-write m s p (number k r) (place-8 p k r o) (view-32 p k r o) n (other-copies (s .ackAt p (number k r) (place-8 p k r o) (view-32 p k r o)) c n few)
+  flight-kept records acks updates uacks (updatesThere p k r n o c few) =
+      update-write m s p (number k r) (place-8 p k r o) (view-32 p k r o) n (other-copies (s .updateAt p (number k r) (place-8 p k r o) (view-32 p k r o)) c n few)
+  flight-kept records acks updates uacks (uacksThere p k r n o c few) =
+      uack-write m s p (number k r) (place-8 p k r o) (view-32 p k r o) n (other-copies (s .uackAt p (number k r) (place-8 p k r o) (view-32 p k r o)) c n few)
 
   status-kept : (v : ℕ) → v < 32 → (t : Status) → StatusMove m v t → Unbroken (withEntry m v (inStatus t (entry m v)))
   status-kept v h t (isWaiting e) = let n = ap statusNumber e in status-write m s v h Waiting (omega arith) (omega arith)
@@ -113,18 +89,18 @@ module _ (m : State) (s : Unbroken m) where
   status-kept v h t (isDone p hp e d c) = let n = ap statusNumber e in status-write m s v h Done (omega arith) (omega arith)
 
 pub change-kept : (m n : State) → Unbroken m → Change m n → Unbroken n
-change-kept m n s (onUp p b h) = up-write m s p b (store-8 m s p h) (λ k. absurd (omega arith))
 change-kept m n s (onSend from to own word causes c) = send-kept m s from to own word causes c
 change-kept m n s (onReceive k c) = receive-kept m s k c
 change-kept m n s (onHead a w h) = head-kept m s a w h
 change-kept m n s (onSettle a h) = post-check-kept m s a h
 change-kept m n s (onFlight records acks updates uacks f) = flight-kept m s records acks updates uacks f
-change-kept m n s (onHeld p k r o c) =
-    let hp = store-8 m s p (o .storeIn) in
-    holds m s p k hp (o .storeIn) (o .keyIn) r (o .roleIn) (s .recordAt p (number k r) hp (number-32 m s k r (o .keyIn) (o .roleIn)) .atView c)
-change-kept m n s (onViewlink p k v link hs hk l) = link-kept m s p k v link hs hk l
+change-kept m n s (onTaken p k r o c) = taken-kept m s p k r o c
+change-kept m n s (onUpdated p k r o c) = updated-kept m s p k r o c
 change-kept m n s (onStatus k r t o c) = status-kept m s (number k r) (number-32 m s k r (o .keyIn) (o .roleIn)) t c
 change-kept m n s (onRepair k r c) = take-repair-kept m s k r c
+change-kept m n s (onCrash p h) = crashed-kept m s p h
+change-kept m n s (onRestart p h) = restarted-kept m s p h
+change-kept m n s (onCheckpoint p h up) = checkpointed-kept m s p h
 
 -- one change, and one more
 one : (m n : State) → Change m n → Changes m n
@@ -156,33 +132,31 @@ module _ (m : State) (s : Unbroken m) where
       then m₁ _ (one m m₁ (onHead a w (isSent h)))
       (onFlight _ (m .acks) (m .updates) (m .uacks) (recordComes (headView m a .store) v hs (head-made m s a ha some) (ap (λ (x : View). x .phase) now) (ap (λ (x : View). x .store) now)))
 
+  -- one copy fewer than there were is not too many
+  few : {stores p least at n : ℕ} → CopySlot stores p least at n → n - 1 ≤ 15
+  few c = let t = c .copies15 in omega arith
+
+  module _ (p k r : ℕ) (o : PlaceOf m p k r) where
+    few-records : recordCopies m p (number k r) - 1 ≤ 15
+    few-records = few (s .recordAt p (number k r) (place-8 m s p k r o) (view-32 m s p k r o))
+
+    few-acks : ackCopies m p (number k r) - 1 ≤ 15
+    few-acks = few (s .ackAt p (number k r) (place-8 m s p k r o) (view-32 m s p k r o))
+
+    few-updates : updateCopies m p (number k r) - 1 ≤ 15
+    few-updates = few (s .updateAt p (number k r) (place-8 m s p k r o) (view-32 m s p k r o))
+
+    few-uacks : uackCopies m p (number k r) - 1 ≤ 15
+    few-uacks = few (s .uackAt p (number k r) (place-8 m s p k r o) (view-32 m s p k r o))
+
   take-record-changes : (p k r : ℕ) → TakeRecordTaken m p k r → Changes m (recordTaken m p k r)
   unfolding recordTaken
   take-record-changes p k r c =
       let o = c .place in
-      let hs = o .storeIn in
-      let hk = o .keyIn in
-      let hr = o .roleIn in
-      let v = number k r in
-      let hp = store-8 m s p hs in
-      let hv = number-32 m s k r hk hr in
-      let m₁ = withHeld m p k r in
-      let l = writtenViewlink (viewlink m p v) (view m v) in
-      let m₂ = withViewlink m₁ p v l in
-      let m₃ = withAckCopies m₂ p v (more (ackCopies m p v)) in
-      let o₃ : PlaceOf m₃ p k r = record { storeIn = hs; keyIn = hk; roleIn = hr } in
-      let o₂ : PlaceOf m₂ p k r = record { storeIn = hs; keyIn = hk; roleIn = hr } in
-      let w = writtenContents (contents m p v) (view m v) in
-      let there : contents m₁ p v .held ≡ true =
-      ap (λ (x : Contents). x .held) (place-same (m .contents) p v w noContents (s .sized .contents) hp hv) ∙ written-held m s p k hp hs hk (contents m p v) (view m v) in
-      let link : 1 ≤ viewlink m₂ p v =
-      subst (λ (n : ℕ). 1 ≤ n) (sym (link-same (m .shelves) p v l (s .sized .shelves) (s .storeAt p hp .long) hp hv))
-      (pick-case (λ (n : ℕ). 1 ≤ n) (eqb (viewlink m p v) 0) (view m v .viewlink + 1) (viewlink m p v) (λ e. omega arith) (λ e. zero-splits (viewlink m p v) .fails e)) in
-      then m₃ _
-      (then m₂ m₃
-      (then m₁ m₂ (one m m₁ (onHeld p k r o (c .copy))) (onViewlink p k v l hs hk (isWritten r hr (c .copy) there)))
-      (onFlight (m .records) _ (m .updates) (m .uacks) (ackComes p k r o₂ there link)))
-      (onFlight _ (m₃ .acks) (m .updates) (m .uacks) (recordGoes p k r o₃ (c .copy)))
+      let m₁ = withTaken m p k r in
+      let o₁ : PlaceOf m₁ p k r = record { storeIn = o .storeIn; keyIn = o .keyIn; roleIn = o .roleIn } in
+      then m₁ _ (one m m₁ (onTaken p k r o (c .copy)))
+      (onFlight _ (m .acks) (m .updates) (m .uacks) (recordsThere p k r (recordCopies m p (number k r) - 1) o₁ (c .copy) (few-records p k r o)))
 
   take-ack-changes : (p k r : ℕ) → TakeAckTaken m p k r → Changes m (ackTaken m p k r)
   unfolding ackTaken
@@ -209,7 +183,7 @@ module _ (m : State) (s : Unbroken m) where
       subst (λ (n : ℕ). Changes m (withView m n (phased 4 (view m n)))) here
       (one m _ (onHead a (phased 4 (headView m a)) (isAcked p h at (subst (λ (n : ℕ). 1 ≤ ackCopies m p n) (sym here) (c .copy))))) in
       then m₁ _ (choose m (withView m v) (accepts m p v) (phased 4 (view m v)) (view m v) accepted (same-view m v))
-      (onFlight (m .records) _ (m .updates) (m .uacks) (ackGoes p k r o₁ (c .copy)))
+      (onFlight (m .records) _ (m .updates) (m .uacks) (acksThere p k r (ackCopies m p v - 1) o₁ (c .copy) (few-acks p k r o)))
 
   send-update-changes : (k r : ℕ) → SendUpdateTaken m k r → Changes m (updateSent m k r)
   unfolding updateSent
@@ -233,22 +207,10 @@ module _ (m : State) (s : Unbroken m) where
   unfolding updateTaken
   take-update-changes p k r c =
       let o = c .place in
-      let hs = o .storeIn in
-      let hk = o .keyIn in
-      let hr = o .roleIn in
-      let v = number k r in
-      let u = number k (1 - r) in
-      let hp = store-8 m s p hs in
-      let hu = number-32 m s k (1 - r) hk (omega arith) in
-      let m₁ = withViewlink m p u (entry m v .own + 1) in
-      let m₂ = withUackCopies m₁ p v (more (uackCopies m p v)) in
-      let o₁ : PlaceOf m₁ p k r = record { storeIn = hs; keyIn = hk; roleIn = hr } in
-      let o₂ : PlaceOf m₂ p k r = record { storeIn = hs; keyIn = hk; roleIn = hr } in
-      let link : viewlink m₁ p u ≡ entry m v .own + 1 = link-same (m .shelves) p u (entry m v .own + 1) (s .sized .shelves) (s .storeAt p hp .long) hp hu in
-      then m₂ _
-      (then m₁ m₂ (one m m₁ (onViewlink p k u (entry m v .own + 1) hs hk (isUpdated r hr (c .copy))))
-      (onFlight (m .records) (m .acks) (m .updates) _ (uackComes p k r o₁ (c .copy) link)))
-      (onFlight (m .records) (m .acks) _ (m₂ .uacks) (updateGoes p k r o₂ (c .copy)))
+      let m₁ = withUpdated m p k r in
+      let o₁ : PlaceOf m₁ p k r = record { storeIn = o .storeIn; keyIn = o .keyIn; roleIn = o .roleIn } in
+      then m₁ _ (one m m₁ (onUpdated p k r o (c .copy)))
+      (onFlight (m .records) (m .acks) _ (m .uacks) (updatesThere p k r (updateCopies m p (number k r) - 1) o₁ (c .copy) (few-updates p k r o)))
 
   take-uack-changes : (p k r : ℕ) → TakeUackTaken m p k r → Changes m (uackTaken m p k r)
   unfolding uackTaken
@@ -265,7 +227,7 @@ module _ (m : State) (s : Unbroken m) where
       (λ b. one m _ (onStatus k r Done (record { keyIn = o .keyIn; roleIn = o .roleIn })
       (isDone p (o .storeIn) (waiting (entry m v .status) (eqb-true (statusNumber (entry m v .status)) 2 (and-left waits answers b))) (eqb-true (entry m v .destination) p (and-right waits answers b)) (c .copy))))
       (ap (withEntries m) (set-getD (m .entries) v noEntry)))
-      (onFlight (m .records) (m .acks) (m .updates) _ (uackGoes p k r o₁ (c .copy)))
+      (onFlight (m .records) (m .acks) (m .updates) _ (uacksThere p k r (uackCopies m p v - 1) o₁ (c .copy) (few-uacks p k r o)))
 
   lose-changes : (what p k r : ℕ) → LoseTaken m what p k r → Changes m (lost m what p k r)
   unfolding lost
@@ -277,14 +239,14 @@ module _ (m : State) (s : Unbroken m) where
       go : (a b d : Bool)
           → 1 ≤ pick a (recordCopies m p (number k r)) (pick b (ackCopies m p (number k r)) (pick d (updateCopies m p (number k r)) (uackCopies m p (number k r))))
           → Changes m (fewerOf m p (number k r) a b d)
-      go true b d h = one m _ (onFlight _ (m .acks) (m .updates) (m .uacks) (recordGoes p k r o h))
-      go false true d h = one m _ (onFlight (m .records) _ (m .updates) (m .uacks) (ackGoes p k r o h))
-      go false false true h = one m _ (onFlight (m .records) (m .acks) _ (m .uacks) (updateGoes p k r o h))
-      go false false false h = one m _ (onFlight (m .records) (m .acks) (m .updates) _ (uackGoes p k r o h))
+      go true b d h = one m _ (onFlight _ (m .acks) (m .updates) (m .uacks) (recordsThere p k r _ o h (few-records p k r o)))
+      go false true d h = one m _ (onFlight (m .records) _ (m .updates) (m .uacks) (acksThere p k r _ o h (few-acks p k r o)))
+      go false false true h = one m _ (onFlight (m .records) (m .acks) _ (m .uacks) (updatesThere p k r _ o h (few-updates p k r o)))
+      go false false false h = one m _ (onFlight (m .records) (m .acks) (m .updates) _ (uacksThere p k r _ o h (few-uacks p k r o)))
 
 -- the walk through the kinds
 pub taken-changes : (m : State) (s : Step) → Unbroken m → Taken m s → Changes m (afterOf m s)
-unfolding preChecked timedOut expired crashed restarted
+unfolding preChecked timedOut expired
 taken-changes m (Send from to own word causes) e c = one m _ (onSend from to own word causes c)
 taken-changes m (Receive k) e c = one m _ (onReceive k c)
 taken-changes m (PreCheck a) e c = one m _ (onHead a (checkedView m (headView m a)) (isChecked c))
@@ -299,8 +261,9 @@ taken-changes m (TakeUpdate p k r) e c = take-update-changes m e p k r c
 taken-changes m (TakeUack p k r) e c = take-uack-changes m e p k r c
 taken-changes m (Expire k r) e c = one m _ (onStatus k r ToSend (c .view) (isExpired (c .waits)))
 taken-changes m (Lose what p k r) e c = lose-changes m e what p k r c
-taken-changes m (Crash p) e c = one m _ (onUp p false (c .storeIn))
-taken-changes m (Restart p) e c = one m _ (onUp p true (c .storeIn))
+taken-changes m (Crash p) e c = one m _ (onCrash p (c .storeIn))
+taken-changes m (Restart p) e c = one m _ (onRestart p (c .storeIn))
+taken-changes m (Checkpoint p) e c = one m _ (onCheckpoint p (c .storeIn) (c .up))
 
 -- every slot is kept through a chain of changes
 pub changes-kept : (m n : State) → Unbroken m → Changes m n → Unbroken n

@@ -28,10 +28,11 @@ use Rattle.protocol.specs.Expire.{expireNo}
 use Rattle.protocol.specs.Lose.{copies, loseNo}
 use Rattle.protocol.specs.Crash.{crashNo}
 use Rattle.protocol.specs.Restart.{restartNo}
+use Rattle.protocol.specs.Checkpoint.{checkpointNo}
 use Rattle.protocol.specs.Step.{numberOf}
 use Rattle.protocol.specs.declared.Step.{Step}
-use Rattle.protocol.specs.declared.Step.the-variants.{Send, Receive, PreCheck, SendRecord, Timeout, TakeRecord, TakeAck, PostCheck, TakeRepair, SendUpdate, TakeUpdate, TakeUack, Expire, Lose, Crash, Restart}
-use Rattle.keeps.specs.Taken.{HeadIn, PlaceOf, ReceivedBy, SendTaken, ReceiveTaken, TimeoutTaken, TakeRecordTaken, TakeAckTaken, TakeRepairTaken, SendUpdateTaken, TakeUpdateTaken, TakeUackTaken, ExpireTaken, LoseTaken, CrashTaken, RestartTaken, Taken}
+use Rattle.protocol.specs.declared.Step.the-variants.{Send, Receive, PreCheck, SendRecord, Timeout, TakeRecord, TakeAck, PostCheck, TakeRepair, SendUpdate, TakeUpdate, TakeUack, Expire, Lose, Crash, Restart, Checkpoint}
+use Rattle.keeps.specs.Taken.{HeadIn, PlaceOf, ReceivedBy, SendTaken, ReceiveTaken, TimeoutTaken, TakeRecordTaken, TakeAckTaken, TakeRepairTaken, SendUpdateTaken, TakeUpdateTaken, TakeUackTaken, ExpireTaken, LoseTaken, StoreUp, RestartTaken, Taken}
 
 -- a number is 0 exactly if a fact holds
 record Zero (n : ℕ) (P : Type 0) : Type 0 where
@@ -238,10 +239,9 @@ module _ (m : State) where
       (λ x. record { whatIn = x .0 .0 .0 .0; place = record { storeIn = x .0 .0 .0 .1; keyIn = x .0 .0 .1; roleIn = x .0 .1 }; copy = x .1 .0 })
       (λ s. ((((s .whatIn, s .place .storeIn), s .place .keyIn), s .place .roleIn), (s .copy, tt)))
 
-  -- 15, 16
-  crash-zero : (p : ℕ) → Zero (crashNo m p) (CrashTaken m p)
-  unfolding crashNo
-  crash-zero p =
+  -- 15 and 17, 16
+  up-zero : (p : ℕ) → Zero (refused 2 (outside p (m .stores)) (refused 5 (not (isUp m p)) 0)) (StoreUp m p)
+  up-zero p =
       zero-put (zero-refused (omega arith) (inside p (m .stores)) (zero-refused (omega arith) (unless (is-says (isUp m p))) zero-taken))
       (λ x. record { storeIn = x .0; up = x .1 .0 })
       (λ s. (s .storeIn, (s .up, tt)))
@@ -254,7 +254,7 @@ module _ (m : State) where
       (λ s. (s .storeIn, (s .down, tt)))
 
   number-zero : (s : Step) → Zero (numberOf m s) (Taken m s)
-  unfolding preCheckNo sendRecordNo postCheckNo
+  unfolding preCheckNo sendRecordNo postCheckNo crashNo checkpointNo
   number-zero (Send from to own word causes) = send-zero from to own causes
   number-zero (Receive k) = receive-zero k
   number-zero (PreCheck a) = head-zero 1 m a
@@ -269,8 +269,9 @@ module _ (m : State) where
   number-zero (TakeUack p k r) = take-uack-zero p k r
   number-zero (Expire k r) = expire-zero k r
   number-zero (Lose what p k r) = lose-zero what p k r
-  number-zero (Crash p) = crash-zero p
+  number-zero (Crash p) = up-zero p
   number-zero (Restart p) = restart-zero p
+  number-zero (Checkpoint p) = up-zero p
 
   -- taken exactly when the condition holds
   pub taken-when : (s : Step) → numberOf m s ≡ 0 → Taken m s

@@ -56,6 +56,7 @@ module _ (m : State) (s : Unbroken m) (v : ℕ) (h : v < 32) (old : view m v .ph
           sameLinks = λ j b f. r .sameLinks j b f ∙ ap (λ (l : List ℕ). getD l j 0) (sym (on (o .contentsSlot p hp .ready f) .4));
           linksBlank = r .linksBlank;
         };
+        ackOwed = λ p hp e. on (o .ackOwed p hp e) .0;
       }
 
 module _ (m : State) (s : Unbroken m) (a : ℕ) (ha : a < m .actors) (some : 1 ≤ queue m a .len) where

@@ -1,14 +1,20 @@
--- What holds of each place of a list holds after one is written, if it holds of what was written: by index, and by store and view.
--- Assumes nothing.
-use Prim.Native.Nat.{ℕ, _<_}
+-- What holds of each place of a list holds after one is written, if it holds of what was written: by index, by store and view, and where
+-- all the places of one store are written. Assumes nothing.
+use Prim.Native.Nat.{ℕ, _+_, _*_, _<_}
 use mathlib.Core.Path.{_≡_, sym, ap, subst, _∙_}
 use mathlib.Core.Logic.{_≢_}
+use mathlib.Core.Bool.{Bool}
 use mathlib.Core.List.{List}
 use native.Mathlib.Omega.{arith}
 use native.Mathlib.Decide.{ℕ-discrete}
 use lib.ListN.{length, getD, set}
+use lib.Dec.{eqb}
 use lib.Seq.{getD-set-same, getD-set-other}
+use borrow.Author.Tests.{eq-eqb, ne-eqb}
+use Rattle.protocol.specs.Words.{pick}
 use Rattle.protocol.specs.Slots.{place, linksPlace}
+use Rattle.protocol.specs.Sweep.{onPlaces}
+use Rattle.unbroken.proofs.Places.{places-at}
 
 module _ {A : Type 0} (l : List A) (n j : ℕ) (x d : A) (long : length l ≡ n) (h : j < n) where
   pub same : getD (set l j x) j d ≡ x
@@ -56,3 +62,18 @@ module _ {A : Type 0} (l : List A) (p k : ℕ) (x d : A) (long : length l ≡ 12
           subst (P q j) (sym (ap (λ (i : ℕ). getD (set l (linksPlace p k) x) i d) e ∙ getD-set-same l (linksPlace p k) x d (omega arith)))
           (subst (λ (i : ℕ). P i j x) (sym e₁) (subst (λ (i : ℕ). P p i x) (sym e₂) px))
       go (no n) = subst (P q j) (sym (getD-set-other l (linksPlace p k) (linksPlace q j) x d n)) (f q j hq hj (λ a b. n (omega arith)))
+
+module _ {A : Type 0} (places p : ℕ) (f : ℕ → A → A) (none : A) (l : List A) where
+  abbrev was : ℕ → ℕ → A
+  was q v = getD l (q * places + v) none
+
+  pub at-places : (P : ℕ → ℕ → A → Type 0) → ((v : ℕ) → v < places → P p v (f v (was p v))) → ((q v : ℕ) → q < 8 → v < places → q ≢ p → P q v (was q v))
+      → (q v : ℕ) → q < 8 → v < places → P q v (getD (onPlaces places p f none l) (q * places + v) none)
+  at-places P here others q v hq hv = subst (P q v) (sym (places-at places p f none l q v hq hv)) (go (ℕ-discrete q p))
+    where
+      chosen : Bool → A
+      chosen b = pick b (f v (was q v)) (was q v)
+
+      go : Dec (q ≡ p) → P q v (pick (eqb q p) (f v (was q v)) (was q v))
+      go (yes e) = subst (λ (b : Bool). P q v (chosen b)) (sym (eq-eqb q p e)) (subst (λ (i : ℕ). P i v (f v (was i v))) (sym e) (here v hv))
+      go (no n) = subst (λ (b : Bool). P q v (chosen b)) (sym (ne-eqb q p n)) (others q v hq hv n)

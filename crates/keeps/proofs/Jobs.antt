@@ -3,6 +3,7 @@
 use Prim.Native.Nat.{ℕ, _-_, _≤_, _<_}
 use mathlib.Core.Path.{_≡_, refl, sym, ap, subst, _∙_}
 use mathlib.Core.Logic.{_≢_}
+use mathlib.Core.Bool.{true}
 use mathlib.Core.List.{List}
 use native.Mathlib.Omega.{arith}
 use native.Mathlib.Decide.{ℕ-discrete}
@@ -10,9 +11,10 @@ use lib.ListN.{length, getD, set, length-set}
 use lib.Seq.{getD-set-same, getD-set-other}
 use Rattle.protocol.specs.Words.{times}
 use Rattle.protocol.specs.Slots.{number, noView, standing}
-use Rattle.protocol.specs.Slots.{view, queue, message, repair, entry, recordCopies, ackCopies, contents, causeLinks}
+use Rattle.protocol.specs.Slots.{view, queue, message, repair, entry, recordCopies, ackCopies, contents, causeLinks, owesAck}
+use Rattle.protocol.specs.Sweep.{hasContents}
 use Rattle.protocol.specs.Writes.{withMade, withViews, withQueues, withMessages}
-use Rattle.unbroken.specs.Unbroken.{Sized, ViewSlot, QueueSlot, MessageSlot, RepairSlot, EntrySlot, CopySlot, ContentsSlot, LinksSlot, Unbroken}
+use Rattle.unbroken.specs.Unbroken.{Sized, ViewSlot, QueueSlot, MessageSlot, RepairSlot, EntrySlot, CopySlot, ContentsSlot, LinksSlot, RowSlot, Unbroken}
 use Rattle.protocol.specs.declared.State.{State}
 use Rattle.protocol.specs.declared.View.{View}
 use Rattle.protocol.specs.declared.Queue.{Queue}
@@ -25,11 +27,20 @@ pub record Job (m : State) (made sender v : ℕ) (w : View) : Type 0 where
   pub entrySlot : EntrySlot (m .stores) (w .phase) (entry m v)
   pub recordSlot : (p : ℕ) → p < 8 → CopySlot (m .stores) p 2 (w .phase) (recordCopies m p v)
   pub ackSlot : (p : ℕ) → p < 8 → CopySlot (m .stores) p 2 (w .phase) (ackCopies m p v)
-  pub contentsSlot : (p : ℕ) → p < 8 → ContentsSlot (m .stores) p w (contents m p v)
-  pub linksSlot : (p k : ℕ) → p < 8 → k < 16 → v ≡ number k 0 → LinksSlot (contents m p v .held) (w .links) (causeLinks m p k)
+  pub contentsSlot : (p : ℕ) → p < 8 → ContentsSlot (m .stores) p (hasContents m p v) w (contents m p v)
+  pub linksSlot : (p k : ℕ) → p < 8 → k < 16 → v ≡ number k 0 → LinksSlot (hasContents m p v) (w .links) (causeLinks m p k)
+  pub ackOwed : (p : ℕ) → p < 8 → owesAck m p v ≡ true → 2 ≤ w .phase
 
 abbrev pub jobsOf : State → ℕ → List View → List Queue → List Message → State
 jobsOf m made views queues messages = withMade (withMessages (withQueues (withViews m views) queues) messages) made
+
+-- a row of viewlinks, with as many interactions or more
+more-made : {stores made made′ p : ℕ} {row : List ℕ} → made ≤ made′ → RowSlot stores made p row → RowSlot stores made′ p row
+more-made more o =
+    record {
+      long = o .long;
+      linkAt = λ v h. let i = o .linkAt v h in record { linkIn = i .linkIn; atStore = i .atStore; atView = λ b. let j = i .atView b in omega arith };
+    }
 
 module _ (m : State) (s : Unbroken m) where
   -- an unbroken machine's views have it all
@@ -42,7 +53,8 @@ module _ (m : State) (s : Unbroken m) where
         recordSlot = λ p hp. s .recordAt p v hp h;
         ackSlot = λ p hp. s .ackAt p v hp h;
         contentsSlot = λ p hp. s .contentsAt p v hp h;
-        linksSlot = λ p k hp hk e. subst (λ (n : ℕ). LinksSlot (contents m p n .held) (view m n .links) (causeLinks m p k)) (sym e) (s .linksAt p k hp hk);
+        linksSlot = λ p k hp hk e. subst (λ (n : ℕ). LinksSlot (hasContents m p n) (view m n .links) (causeLinks m p k)) (sym e) (s .linksAt p k hp hk);
+        ackOwed = λ p hp. s .ackOwed p v hp h;
       }
 
   module _ (made : ℕ) (views : List View) (queues : List Queue) (messages : List Message) where
@@ -79,9 +91,15 @@ module _ (m : State) (s : Unbroken m) where
               let o = s .storeAt p hp in
               record {
                 upBlank = o .upBlank;
-                long = o .long;
-                linkAt = λ v h. let i = o .linkAt v h in record { linkIn = i .linkIn; atStore = i .atStore; atView = λ b. let j = i .atView b in omega arith };
+                heldBlank = o .heldBlank;
+                keptBlank = o .keptBlank;
+                acksBlank = o .acksBlank;
+                uacksBlank = o .uacksBlank;
+                working = more-made more (o .working);
+                checkpointed = more-made more (o .checkpointed);
               };
+          ackOwed = λ p v hp h. jobs v h .ackOwed p hp;
+          uackOwed = s .uackOwed;
         }
 
   -- one view is written, and keeps its actor

@@ -10,21 +10,23 @@ use lib.Seq.{getD-set-same, getD-set-other}
 use lib.Dec.{eqb}
 use borrow.Author.Tests.{eq-eqb, ne-eqb}
 use Rattle.protocol.specs.Words.{pick, bit, allFrom, table}
-use Rattle.protocol.specs.Slots.{number, place, noView, noContents, home, isUp, view, contents, viewlink}
+use Rattle.protocol.specs.Slots.{number, noView, home, shelf, isUp, view, isHeld, viewlink}
 use Rattle.protocol.specs.Setup.{answered, legalActor, legalActors, legal, freshWith}
 use Rattle.protocol.specs.Broken.{brokenOf}
 use Rattle.protocol.specs.declared.State.{State}
 use Rattle.protocol.specs.declared.View.{View}
-use Rattle.protocol.specs.declared.Contents.{Contents}
+use Rattle.protocol.specs.declared.Store.{Store}
 use Rattle.protocol.specs.Outcome.{Outcome}
 use Rattle.unbroken.proofs.Laws.{unbroken, only, fresh-unbroken}
-use Rattle.unbroken.proofs.Shelves.{link-same}
+use Rattle.unbroken.proofs.Shelves.{shelf-same}
+use Rattle.unbroken.proofs.Laws.Has.{has-held}
 use Rattle.unbroken.proofs.Laws.Tests.{not-both}
 use Rattle.unbroken.proofs.Laws.Every.{table-at}
 use Rattle.unbroken.proofs.Laws.Says.{zero-splits}
 use Rattle.protocol.specs.Send.{homeLink, sentView, awaitedView, sent}
 use Rattle.protocol.specs.Receive.{receivedView, receivedOf}
-use Rattle.protocol.specs.TakeRecord.{writtenContents, writtenViewlink, recordTaken}
+use Rattle.protocol.specs.TakeRecord.{takenIn, recordTaken}
+use Rattle.protocol.specs.Sweep.{swept}
 use Rattle.protocol.specs.Crash.{crashNo, crashed}
 use Rattle.protocol.specs.Restart.{restartNo}
 use Rattle.protocol.specs.Step.{numberOf, afterOf, ruleOf, stepOf}
@@ -32,12 +34,12 @@ use Rattle.protocol.specs.declared.Step.{Step}
 use Rattle.protocol.specs.declared.Step.the-variants.{TakeRecord, Crash, Restart}
 use Rattle.keeps.specs.Laws.{TakenExactly, TakenGives, RefusedGives, BrokenGives, TakenBy, AnswerZero, JointSame, MadeCounts, SendsNewKey, SendWritesLinks}
 use Rattle.keeps.specs.Laws.{ReceiveWritesLink, StoreWritesLinks, OneResult, madeBy, marked, Program, RefuserOut, ConstantOut, PretenderOut, ResultsDiffer}
-use Rattle.keeps.proofs.Index.{place-same}
+use Rattle.keeps.proofs.Index.{same}
 use Rattle.keeps.proofs.Conditions.{taken-when, when-taken}
 use Rattle.keeps.proofs.Joins.{home-in}
 use Rattle.keeps.proofs.Cases.{pick-case, step-case}
 use Rattle.keeps.proofs.Which.{Kind, a-send, another, kinds}
-use Rattle.keeps.proofs.Stores.{store-8, key-16, number-32, written-held}
+use Rattle.keeps.proofs.Stores.{store-8, key-16, number-32, joined-has}
 use Rattle.keeps.proofs.Keeps.{every-kept}
 
 pub taken-exactly : TakenExactly
@@ -132,16 +134,15 @@ store-writes-links m p k r e c =
     let v = number k r in
     let hv = number-32 m s k r hk hr in
     let kept = every-kept m (TakeRecord p k r) s c in
-    let w = writtenContents (contents m p v) (view m v) in
-    let here : contents (recordTaken m p k r) p v .held ≡ true =
-    ap (λ (x : Contents). x .held) (place-same (m .contents) p v w noContents (s .sized .contents) hp hv) ∙ written-held m s p k hp hs hk (contents m p v) (view m v) in
-    let l = writtenViewlink (viewlink m p v) (view m v) in
+    let here = shelf-same (m .shelves) p (takenIn (shelf m p) v (view m v)) (s .sized .shelves) hp in
+    let held : isHeld (recordTaken m p k r) p v ≡ true = ap (λ (x : Store). bit (x .held) v) here ∙ joined-has (shelf m p .held) v in
     record {
-      held = here;
-      viewlink = subst (λ (n : ℕ). 1 ≤ n) (sym (link-same (m .shelves) p v l (s .sized .shelves) (s .storeAt p hp .long) hp hv))
+      held = held;
+      viewlink = subst (λ (n : ℕ). 1 ≤ n) (sym (ap (λ (x : Store). getD (x .viewlinks) v 0) here ∙ same (shelf m p .viewlinks) 32 v _ 0 (s .storeAt p hp .working .long) hv))
           (pick-case (λ (n : ℕ). 1 ≤ n) (eqb (viewlink m p v) 0) (view m v .viewlink + 1) (viewlink m p v) (λ f. omega arith) (λ f. zero-splits (viewlink m p v) .fails f));
+      ackOwed = ap (λ (x : Store). bit (x .acksowed) v) here ∙ joined-has (shelf m p .acksowed) v;
       links = λ j h z.
-          kept .linksAt p k hp (key-16 m s k hk) .sameLinks j h (ap (λ (i : ℕ). contents (recordTaken m p k r) p (number k i) .held) (sym z) ∙ here)
+          kept .linksAt p k hp (key-16 m s k hk) .sameLinks j h (has-held (recordTaken m p k r) p (number k 0) (ap (λ (i : ℕ). isHeld (recordTaken m p k r) p (number k i)) (sym z) ∙ held))
           ∙ ap (λ (i : ℕ). getD (view m (number k i) .links) j 0) (sym z);
     }
 
@@ -172,7 +173,7 @@ unfolding freshWith table
 up-before = refl
 
 up-after : isUp (crashed marked 0) 0 ≡ false
-unfolding crashed freshWith table
+unfolding swept crashed freshWith table
 up-after = refl
 
 pub refuser-out : (f : Program) → RefuserOut f

@@ -17,5 +17,6 @@ pub mod Send
 pub mod Changes
 pub mod Keeps
 pub mod Onward
+pub mod Lasting
 pub mod Laws
 pub mod Applies

@@ -155,6 +155,7 @@ module _ (m : State) (s : Unbroken m) (from to own word causes : ℕ) (c : SendT
             ackSlot = o .ackSlot;
             contentsSlot = o .contentsSlot;
             linksSlot = o .linksSlot;
+            ackOwed = o .ackOwed;
           }
 
       go : Dec (u ≡ number k 0) → Dec (u ≡ number k 1) → Job m (k + 1) (getD views (u - 1) noView .actor) u (getD views u noView)

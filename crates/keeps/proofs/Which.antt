@@ -23,9 +23,11 @@ use Rattle.protocol.specs.Expire.{expired}
 use Rattle.protocol.specs.Lose.{lost}
 use Rattle.protocol.specs.Crash.{crashed}
 use Rattle.protocol.specs.Restart.{restarted}
+use Rattle.protocol.specs.Sweep.{swept}
+use Rattle.protocol.specs.Checkpoint.{checkpointed}
 use Rattle.protocol.specs.Step.{afterOf}
 use Rattle.protocol.specs.declared.Step.{Step}
-use Rattle.protocol.specs.declared.Step.the-variants.{Send, Receive, PreCheck, SendRecord, Timeout, TakeRecord, TakeAck, PostCheck, TakeRepair, SendUpdate, TakeUpdate, TakeUack, Expire, Lose, Crash, Restart}
+use Rattle.protocol.specs.declared.Step.the-variants.{Send, Receive, PreCheck, SendRecord, Timeout, TakeRecord, TakeAck, PostCheck, TakeRepair, SendUpdate, TakeUpdate, TakeUack, Expire, Lose, Crash, Restart, Checkpoint}
 use Rattle.keeps.specs.Applies.{valueOf, named}
 use Rattle.keeps.proofs.Cases.{pick-case}
 
@@ -50,7 +52,7 @@ others : {s : Step} → eqb (kind s) 1 ≡ false → kind s < 256 → ((m : Stat
 others e l f b = another (record { other = e; low = l; made = f; bytes = b })
 
 pub kinds : (s : Step) → Kind s
-unfolding receivedOf preChecked recordSent timedOut recordTaken ackTaken postChecked repairTaken updateSent updateTaken uackTaken expired crashed restarted
+unfolding receivedOf preChecked recordSent timedOut recordTaken ackTaken postChecked repairTaken updateSent updateTaken uackTaken expired swept crashed restarted checkpointed
 kinds (Send from to own word causes) = a-send from to own word causes refl
 kinds (Receive k) = others refl (omega arith) (λ m. refl) refl
 kinds (PreCheck a) = others refl (omega arith) (λ m. refl) refl
@@ -67,3 +69,4 @@ kinds (Expire k r) = others refl (omega arith) (λ m. refl) refl
 kinds (Lose what p k r) = others refl (omega arith) (λ m. lost-made m what p k r) refl
 kinds (Crash p) = others refl (omega arith) (λ m. refl) refl
 kinds (Restart p) = others refl (omega arith) (λ m. refl) refl
+kinds (Checkpoint p) = others refl (omega arith) (λ m. refl) refl

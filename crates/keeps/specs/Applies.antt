@@ -13,7 +13,7 @@ use Rattle.protocol.specs.Rule.{headView}
 use Rattle.protocol.specs.Lose.{copies}
 use Rattle.protocol.specs.Step.{stepOf}
 use Rattle.protocol.specs.declared.Step.{Step}
-use Rattle.protocol.specs.declared.Step.the-variants.{Send, Receive, PreCheck, SendRecord, Timeout, TakeRecord, TakeAck, PostCheck, TakeRepair, SendUpdate, TakeUpdate, TakeUack, Expire, Lose, Crash, Restart}
+use Rattle.protocol.specs.declared.Step.the-variants.{Send, Receive, PreCheck, SendRecord, Timeout, TakeRecord, TakeAck, PostCheck, TakeRepair, SendUpdate, TakeUpdate, TakeUack, Expire, Lose, Crash, Restart, Checkpoint}
 use Rattle.keeps.specs.Taken.{ReceivedBy}
 use Rattle.unbroken.specs.Lowest.{IsLowest}
 
@@ -47,6 +47,7 @@ named (Expire k r) = key k ∷ role r ∷ []
 named (Lose w p k r) = what w ∷ store p ∷ key k ∷ role r ∷ []
 named (Crash p) = store p ∷ []
 named (Restart p) = store p ∷ []
+named (Checkpoint p) = store p ∷ []
 
 abbrev pub Names : Step → Thing → Type 0
 Names s x = List·Memᴰ x (named s)
@@ -59,7 +60,7 @@ In m (key k) = k < m .made
 In m (role r) = r < 2
 In m (what w) = w < 4
 
--- the phase, status or copy that a rule needs; 1, 15 and 16 need none
+-- the phase, status or copy that a rule needs; 1, 15, 16 and 17 need none
 abbrev pub HeadAt : ℕ → State → ℕ → Type 0
 HeadAt phase m a = (1 ≤ queue m a .len) × (headView m a .phase ≡ phase)
 
@@ -80,6 +81,7 @@ Needs m (Expire k r) = entry m (number k r) .status ≡ Waiting
 Needs m (Lose w p k r) = 1 ≤ copies m w p (number k r)
 Needs m (Crash p) = Unit
 Needs m (Restart p) = Unit
+Needs m (Checkpoint p) = Unit
 
 pub data Applies (m : State) : Step → ℕ → Type 0 where
   -- 1 broken machine value
@@ -90,10 +92,11 @@ pub data Applies (m : State) : Step → ℕ → Type 0 where
   toItself : (from to own word causes : ℕ) → from ≡ to → Applies m (Send from to own word causes) 3
   -- 4 sixteen interactions made
   isFull : (from to own word causes : ℕ) → 16 ≤ m .made → Applies m (Send from to own word causes) 4
-  -- 5 store down (6, 11, 15)
+  -- 5 store down (6, 11, 15, 17)
   recordDown : (p k r : ℕ) → isUp m p ≡ false → Applies m (TakeRecord p k r) 5
   updateDown : (p k r : ℕ) → isUp m p ≡ false → Applies m (TakeUpdate p k r) 5
   crashDown : (p : ℕ) → isUp m p ≡ false → Applies m (Crash p) 5
+  checkpointDown : (p : ℕ) → isUp m p ≡ false → Applies m (Checkpoint p) 5
   -- 6 restart of a store that is up
   restartUp : (p : ℕ) → isUp m p ≡ true → Applies m (Restart p) 6
   -- 7 the phase, status or copy that the rule needs isn't there

@@ -1,12 +1,12 @@
 -- What a step can change. Each taken step is a chain of these changes, and each of them leaves an unbroken machine unbroken; so a
--- law that a change keeps, every step keeps, and no proof walks the sixteen kinds again.
-use Prim.Native.Nat.{ℕ, _+_, _*_, _-_, _≤_, _<_}
+-- law that a change keeps, every step keeps, and no proof walks the seventeen kinds again.
+use Prim.Native.Nat.{ℕ, _*_, _-_, _≤_, _<_}
 use mathlib.Core.Path.{_≡_}
-use mathlib.Core.Bool.{Bool, true}
+use mathlib.Core.Bool.{true}
 use mathlib.Core.List.{List}
 use lib.ListN.{getD, set}
-use Rattle.protocol.specs.Slots.{number, place, linksPlace, noLinks, view, entry, recordCopies, ackCopies, updateCopies, uackCopies, contents, viewlink}
-use Rattle.protocol.specs.Writes.{withUpAt, withView, withEntry, withViewlink, withContentsAt, withCauseLinks, withRecords, withAcks, withUpdates, withUacks}
+use Rattle.protocol.specs.Slots.{number, place, linksPlace, noLinks, view, entry, shelf, recordCopies, ackCopies, updateCopies, uackCopies, contents, isHeld, isUp}
+use Rattle.protocol.specs.Writes.{withView, withEntry, withShelf, withContentsAt, withCauseLinks, withRecords, withAcks, withUpdates, withUacks}
 use Rattle.protocol.specs.declared.State.{State}
 use Rattle.protocol.specs.declared.View.{View}
 use Rattle.protocol.specs.declared.Status.{Status}
@@ -17,7 +17,11 @@ use Rattle.protocol.specs.Send.{sent}
 use Rattle.protocol.specs.Receive.{receivedOf}
 use Rattle.protocol.specs.PreCheck.{checkedView}
 use Rattle.protocol.specs.Timeout.{timedView}
-use Rattle.protocol.specs.TakeRecord.{writtenContents, writtenLinks, writtenViewlink}
+use Rattle.protocol.specs.TakeRecord.{writtenContents, writtenLinks, takenIn}
+use Rattle.protocol.specs.TakeUpdate.{updatedIn}
+use Rattle.protocol.specs.Crash.{crashed}
+use Rattle.protocol.specs.Restart.{restarted}
+use Rattle.protocol.specs.Checkpoint.{checkpointed}
 use Rattle.protocol.specs.PostCheck.{postChecked}
 use Rattle.protocol.specs.TakeRepair.{repairTaken}
 use Rattle.protocol.specs.SendUpdate.{inStatus}
@@ -34,37 +38,34 @@ pub data HeadMove (m : State) (a : ℕ) : View → Type 0 where
 abbrev pub withFlight : State → List ℕ → List ℕ → List ℕ → List ℕ → State
 withFlight m records acks updates uacks = withUacks (withUpdates (withAcks (withRecords m records) acks) updates) uacks
 
--- a copy comes: of a record to the current store of a view in phase 3, of an ack where contents and viewlink stand, of an update
--- to the destination of an entry that waits, of a uack where the opposite viewlink is the entry's own store. Or a copy goes
+-- a copy comes: of a record to the current store of a view in phase 3, of an update to the destination of an entry that waits.
+-- Or, where there are copies, their number becomes another, up to fifteen: one goes
 pub data FlightMove (m : State) : List ℕ → List ℕ → List ℕ → List ℕ → Type 0 where
   recordComes : (p v : ℕ) → p < m .stores → v < m .made * 2 → view m v .phase ≡ 3 → view m v .store ≡ p
       → FlightMove m (set (m .records) (place p v) (more (recordCopies m p v))) (m .acks) (m .updates) (m .uacks)
-  recordGoes : (p k r : ℕ) → PlaceOf m p k r → 1 ≤ recordCopies m p (number k r)
-      → FlightMove m (set (m .records) (place p (number k r)) (recordCopies m p (number k r) - 1)) (m .acks) (m .updates) (m .uacks)
-  ackComes : (p k r : ℕ) → PlaceOf m p k r → contents m p (number k r) .held ≡ true → 1 ≤ viewlink m p (number k r)
-      → FlightMove m (m .records) (set (m .acks) (place p (number k r)) (more (ackCopies m p (number k r)))) (m .updates) (m .uacks)
-  ackGoes : (p k r : ℕ) → PlaceOf m p k r → 1 ≤ ackCopies m p (number k r)
-      → FlightMove m (m .records) (set (m .acks) (place p (number k r)) (ackCopies m p (number k r) - 1)) (m .updates) (m .uacks)
   updateComes : (p k r : ℕ) → PlaceOf m p k r → entry m (number k r) .status ≡ Waiting → entry m (number k r) .destination ≡ p
       → FlightMove m (m .records) (m .acks) (set (m .updates) (place p (number k r)) (more (updateCopies m p (number k r)))) (m .uacks)
-  updateGoes : (p k r : ℕ) → PlaceOf m p k r → 1 ≤ updateCopies m p (number k r)
-      → FlightMove m (m .records) (m .acks) (set (m .updates) (place p (number k r)) (updateCopies m p (number k r) - 1)) (m .uacks)
-  uackComes : (p k r : ℕ) → PlaceOf m p k r → 1 ≤ updateCopies m p (number k r) → viewlink m p (number k (1 - r)) ≡ entry m (number k r) .own + 1
-      → FlightMove m (m .records) (m .acks) (m .updates) (set (m .uacks) (place p (number k r)) (more (uackCopies m p (number k r))))
-  uackGoes : (p k r : ℕ) → PlaceOf m p k r → 1 ≤ uackCopies m p (number k r)
-      → FlightMove m (m .records) (m .acks) (m .updates) (set (m .uacks) (place p (number k r)) (uackCopies m p (number k r) - 1))
+  recordsThere : (p k r n : ℕ) → PlaceOf m p k r → 1 ≤ recordCopies m p (number k r) → n ≤ 15
+      → FlightMove m (set (m .records) (place p (number k r)) n) (m .acks) (m .updates) (m .uacks)
+  acksThere : (p k r n : ℕ) → PlaceOf m p k r → 1 ≤ ackCopies m p (number k r) → n ≤ 15
+      → FlightMove m (m .records) (set (m .acks) (place p (number k r)) n) (m .updates) (m .uacks)
+  updatesThere : (p k r n : ℕ) → PlaceOf m p k r → 1 ≤ updateCopies m p (number k r) → n ≤ 15
+      → FlightMove m (m .records) (m .acks) (set (m .updates) (place p (number k r)) n) (m .uacks)
+  uacksThere : (p k r n : ℕ) → PlaceOf m p k r → 1 ≤ uackCopies m p (number k r) → n ≤ 15
+      → FlightMove m (m .records) (m .acks) (m .updates) (set (m .uacks) (place p (number k r)) n)
 
--- what a store holds of a view, once it has taken its record
-abbrev pub withHeld : State → ℕ → ℕ → ℕ → State
-withHeld m p k r =
-    withCauseLinks (withContentsAt m p (number k r) (writtenContents (contents m p (number k r)) (view m (number k r)))) p k
-    (writtenLinks r (contents m p (number k r)) (view m (number k r)) (getD (m .links) (linksPlace p k) noLinks))
+-- a store once it has taken a view's record, and once it has taken the update of a view's entry; the copy goes by itself
+abbrev pub withTaken : State → ℕ → ℕ → ℕ → State
+withTaken m p k r =
+    let v = number k r in
+    withShelf
+    (withCauseLinks
+    (withContentsAt m p v (writtenContents (isHeld m p v) (contents m p v) (view m v)))
+    p k (writtenLinks r (isHeld m p v) (view m v) (getD (m .links) (linksPlace p k) noLinks)))
+    p (takenIn (shelf m p) v (view m v))
 
--- a viewlink in a store: the record's, beside contents, where none was (6); the own store of the opposite view's entry (11)
-pub data LinkMove (m : State) (p k : ℕ) : ℕ → ℕ → Type 0 where
-  isWritten : (r : ℕ) → r < 2 → 1 ≤ recordCopies m p (number k r) → contents m p (number k r) .held ≡ true
-      → LinkMove m p k (number k r) (writtenViewlink (viewlink m p (number k r)) (view m (number k r)))
-  isUpdated : (r : ℕ) → r < 2 → 1 ≤ updateCopies m p (number k r) → LinkMove m p k (number k (1 - r)) (entry m (number k r) .own + 1)
+abbrev pub withUpdated : State → ℕ → ℕ → ℕ → State
+withUpdated m p k r = withShelf m p (updatedIn (shelf m p) (number k r) (number k (1 - r)) (entry m (number k r) .own))
 
 -- an entry's status: the update is sent (10), the wait is over (13), the destination has answered (12)
 pub data StatusMove (m : State) (v : ℕ) : Status → Type 0 where
@@ -73,16 +74,18 @@ pub data StatusMove (m : State) (v : ℕ) : Status → Type 0 where
   isDone : (p : ℕ) → p < m .stores → entry m v .status ≡ Waiting → entry m v .destination ≡ p → 1 ≤ uackCopies m p v → StatusMove m v Done
 
 pub data Change (m : State) : State → Type 0 where
-  onUp : (p : ℕ) (b : Bool) → p < m .stores → Change m (withUpAt m p b)
   onSend : (from to own word causes : ℕ) → SendTaken m from to own causes → Change m (sent m from to own word causes)
   onReceive : (k : ℕ) → ReceiveTaken m k → Change m (receivedOf m k)
   onHead : (a : ℕ) (w : View) → HeadMove m a w → Change m (withView m (head m a) w)
   onSettle : (a : ℕ) → HeadIn 4 m a → Change m (postChecked m a)
   onFlight : (records acks updates uacks : List ℕ) → FlightMove m records acks updates uacks → Change m (withFlight m records acks updates uacks)
-  onHeld : (p k r : ℕ) → PlaceOf m p k r → 1 ≤ recordCopies m p (number k r) → Change m (withHeld m p k r)
-  onViewlink : (p k v link : ℕ) → p < m .stores → k < m .made → LinkMove m p k v link → Change m (withViewlink m p v link)
+  onTaken : (p k r : ℕ) → PlaceOf m p k r → 1 ≤ recordCopies m p (number k r) → Change m (withTaken m p k r)
+  onUpdated : (p k r : ℕ) → PlaceOf m p k r → 1 ≤ updateCopies m p (number k r) → Change m (withUpdated m p k r)
   onStatus : (k r : ℕ) (t : Status) → ViewOf m k r → StatusMove m (number k r) t → Change m (withEntry m (number k r) (inStatus t (entry m (number k r))))
   onRepair : (k r : ℕ) → TakeRepairTaken m k r → Change m (repairTaken m k r)
+  onCrash : (p : ℕ) → p < m .stores → Change m (crashed m p)
+  onRestart : (p : ℕ) → p < m .stores → Change m (restarted m p)
+  onCheckpoint : (p : ℕ) → p < m .stores → isUp m p ≡ true → Change m (checkpointed m p)
 
 -- a chain of changes
 pub data Changes (m : State) : State → Type 0 where

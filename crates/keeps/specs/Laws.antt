@@ -7,7 +7,7 @@ use mathlib.Core.Bool.{true, false}
 use mathlib.Core.List.{[], _∷_}
 use lib.ListN.{getD}
 use Rattle.protocol.specs.Words.{bit}
-use Rattle.protocol.specs.Slots.{number, home, message, view, contents, causeLinks, viewlink}
+use Rattle.protocol.specs.Slots.{number, home, message, view, causeLinks, isHeld, viewlink, owesAck}
 use Rattle.protocol.specs.Setup.{answered, freshWith}
 use Rattle.protocol.specs.Broken.{brokenOf}
 use Rattle.protocol.specs.declared.State.{State}
@@ -67,7 +67,7 @@ abbrev pub SendsNewKey : Type 0
 SendsNewKey = (m : State) (from to own word causes : ℕ) → brokenOf m ≡ false → SendTaken m from to own causes → NewKey m from to own word causes
 
 -- every viewlink and every cause link is written out, also where both stores are the same: after a send in the sender's record,
--- after a receive in the receiver's, after a store took a record beside its contents
+-- after a receive in the receiver's, after a store took a record in its working state, beside the contents
 pub record LinksSent (m : State) (from to own word causes : ℕ) : Type 0 where
   pub viewlink : view (sent m from to own word causes) (number (m .made) 0) .viewlink ≡ home m to
   pub viewlinkIn : home m to < m .stores
@@ -85,8 +85,9 @@ abbrev pub ReceiveWritesLink : Type 0
 ReceiveWritesLink = (m : State) (k : ℕ) → brokenOf m ≡ false → ReceiveTaken m k → LinkReceived m k
 
 pub record LinksHeld (m : State) (p k r : ℕ) : Type 0 where
-  pub held : contents (recordTaken m p k r) p (number k r) .held ≡ true
+  pub held : isHeld (recordTaken m p k r) p (number k r) ≡ true
   pub viewlink : 1 ≤ viewlink (recordTaken m p k r) p (number k r)
+  pub ackOwed : owesAck (recordTaken m p k r) p (number k r) ≡ true
   pub links : (j : ℕ) → j < 16 → r ≡ 0 → getD (causeLinks (recordTaken m p k r) p k) j 0 ≡ getD (view m (number k r) .links) j 0
 
 abbrev pub StoreWritesLinks : Type 0

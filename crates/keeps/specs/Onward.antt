@@ -1,9 +1,10 @@
--- What no step undoes: the setup and the interactions made, what a record says, how far it has come, what a store holds.
+-- What no step undoes: the setup and the interactions made, what a record says, how far it has come, that it has an entry. What lasts in
+-- a store stands in Lasting.antt.
 use Prim.Native.Nat.{ℕ, _*_, _≤_, _<_}
 use mathlib.Core.Path.{_≡_}
 use mathlib.Core.Logic.{_≢_}
 use mathlib.Core.Bool.{true, false}
-use Rattle.protocol.specs.Slots.{number, statusNumber, view, repair, entry, contents, causeLinks, viewlink}
+use Rattle.protocol.specs.Slots.{number, statusNumber, view, repair, entry}
 use Rattle.protocol.specs.Broken.{brokenOf}
 use Rattle.protocol.specs.Closed.{closedOf}
 use Rattle.protocol.specs.declared.State.{State}
@@ -36,10 +37,7 @@ pub record Onward (m n : State) : Type 0 where
   -- the number of interactions never falls, and each view goes on
   pub made : m .made ≤ n .made
   pub views : (v : ℕ) → v < m .made * 2 → ViewOn (view m v) (view n v)
-  -- contents in a store stay, with their cause links; a viewlink is never taken away; an entry is never forgotten
-  pub held : (p v : ℕ) → p < 8 → v < 32 → contents m p v .held ≡ true → contents n p v ≡ contents m p v
-  pub links : (p k : ℕ) → p < 8 → k < 16 → contents m p (number k 0) .held ≡ true → causeLinks n p k ≡ causeLinks m p k
-  pub linked : (p v : ℕ) → p < 8 → v < 32 → 1 ≤ viewlink m p v → 1 ≤ viewlink n p v
+  -- an entry is never forgotten
   pub entered : (v : ℕ) → v < 32 → 1 ≤ statusNumber (entry m v .status) → 1 ≤ statusNumber (entry n v .status)
 
 -- a view rests: in phase 5, no repair in flight, and no entry that is to-send (1) or waiting (2)

@@ -10,7 +10,7 @@ use Rattle.protocol.specs.declared.Status.the-variants.{ToSend, Waiting}
 use Rattle.protocol.specs.Rule.{headView}
 use Rattle.protocol.specs.Lose.{copies}
 use Rattle.protocol.specs.declared.Step.{Step}
-use Rattle.protocol.specs.declared.Step.the-variants.{Send, Receive, PreCheck, SendRecord, Timeout, TakeRecord, TakeAck, PostCheck, TakeRepair, SendUpdate, TakeUpdate, TakeUack, Expire, Lose, Crash, Restart}
+use Rattle.protocol.specs.declared.Step.the-variants.{Send, Receive, PreCheck, SendRecord, Timeout, TakeRecord, TakeAck, PostCheck, TakeRepair, SendUpdate, TakeUpdate, TakeUack, Expire, Lose, Crash, Restart, Checkpoint}
 
 -- the head of an actor's queue is there and in this phase
 pub record HeadIn (phase : ℕ) (m : State) (a : ℕ) : Type 0 where
@@ -99,8 +99,8 @@ pub record LoseTaken (m : State) (what p k r : ℕ) : Type 0 where
   pub place : PlaceOf m p k r
   pub copy : 1 ≤ copies m what p (number k r)
 
--- 15 crash: up. 16 restart: down
-pub record CrashTaken (m : State) (p : ℕ) : Type 0 where
+-- 15 crash, 17 checkpoint: up. 16 restart: down
+pub record StoreUp (m : State) (p : ℕ) : Type 0 where
   pub storeIn : p < m .stores
   pub up : isUp m p ≡ true
 
@@ -124,5 +124,6 @@ Taken m (TakeUpdate p k r) = TakeUpdateTaken m p k r
 Taken m (TakeUack p k r) = TakeUackTaken m p k r
 Taken m (Expire k r) = ExpireTaken m k r
 Taken m (Lose what p k r) = LoseTaken m what p k r
-Taken m (Crash p) = CrashTaken m p
+Taken m (Crash p) = StoreUp m p
 Taken m (Restart p) = RestartTaken m p
+Taken m (Checkpoint p) = StoreUp m p

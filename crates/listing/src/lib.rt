@@ -133,7 +133,7 @@ impl Text {
         }
         let w = m.views[v as usize];
         let shelves = m.shelves;
-        self.line(v / 2, v % 2, w.phase, w.store, held(shelves, w.store, v))
+        self.line(v / 2, v % 2, w.phase, w.store, kept(shelves, w.store, v))
     }
 
     // Key rising, sender first.
@@ -150,16 +150,16 @@ impl Text {
     }
 }
 
-// The viewlink that a store holds for a view; one that isn't there holds nothing.
-fn held(shelves: [Store; 8], store: u8, v: u8) -> u8
+// The viewlink that a store's checkpointed state holds for a view; a store that isn't there holds nothing.
+fn kept(shelves: [Store; 8], store: u8, v: u8) -> u8
     requires { ⌜ v < 32 ⌝ }
-    ensures { λ r. ⌜ r ≡ getD (getD shelves store noStore .viewlinks) v 0 ⌝ }
+    ensures { λ r. ⌜ r ≡ getD (getD shelves store noStore .keptlinks) v 0 ⌝ }
 {
     if 8 <= store {
         return 0;
     }
     let s = shelves[store as usize];
-    s.viewlinks[v as usize]
+    s.keptlinks[v as usize]
 }
 
 // `refused N`.

@@ -3,7 +3,9 @@
 use Prim.Native.Nat.{ℕ, zero, suc, _≤_, _<_, _/_, _%_}
 use mathlib.Core.Path.{_≡_, refl, _∙_, ap, sym, subst}
 use mathlib.Core.Bool.{Bool, true, false, _||_}
+use mathlib.Core.List.{List}
 use native.Mathlib.Omega.{arith}
+use lib.ListN.{set}
 use lib.Dec.{leb·zero}
 use borrow.Author.Tests.{lt-leb}
 use Rattle.protocol.specs.Words.{pick}
@@ -13,11 +15,14 @@ use Rattle.unbroken.specs.Unbroken.{SetupKind}
 use Rattle.unbroken.proofs.Laws.{unbroken}
 use Rattle.protocol.specs.Setup.{answered, emptyMachine}
 use Rattle.protocol.specs.Writes.{withMade, withViews}
-use Rattle.protocol.specs.Slots.{number, queue, view, entry}
+use Rattle.protocol.specs.Sweep.{swept}
+use Rattle.protocol.specs.Slots.{number, place, queue, view, entry}
 use Rattle.protocol.specs.declared.State.{State}
+use Rattle.protocol.specs.declared.Contents.{Contents}
+use Rattle.protocol.specs.declared.Links.{Links}
 use Rattle.rules.specs.About.{aboutOf, nextView, storeOf, viewAbout, actorAbout, storeAbout, outsideAbout, outsideOf}
 use Rattle.protocol.specs.Rule.{head}
-use Rattle.rules.specs.Slots.{Stands, Fits, noPast, pastOf, pastAbout, slotsAt, withSlotsAt, slotsOf, withSlots, outcome}
+use Rattle.rules.specs.Slots.{Stands, Fits, noPast, opposite, pastOf, pastAbout, slotsAt, withSlotsAt, withSent, withSwept, outcome}
 use Rattle.protocol.specs.Step.{ruleOf}
 use Rattle.protocol.specs.Send.{causesKnown, sendNo}
 use Rattle.protocol.specs.Receive.{receiveNo}
@@ -35,13 +40,15 @@ use Rattle.protocol.specs.Expire.{expireNo}
 use Rattle.protocol.specs.Lose.{loseNo}
 use Rattle.protocol.specs.Crash.{crashNo}
 use Rattle.protocol.specs.Restart.{restartNo}
+use Rattle.protocol.specs.Checkpoint.{checkpointNo}
 use Rattle.rules.specs.declared.about.About.{About}
 use Rattle.rules.specs.declared.past.Past.{Past}
 use Rattle.rules.specs.declared.slots.Slots.{Slots}
 use Rattle.rules.specs.declared.slots.Tried.{Tried}
 use Rattle.protocol.specs.declared.Step.{Step}
-use Rattle.protocol.specs.declared.Step.the-variants.{Send, Receive, PreCheck, SendRecord, Timeout, TakeRecord, TakeAck, PostCheck, TakeRepair, SendUpdate, TakeUpdate, TakeUack, Expire, Lose, Crash, Restart}
+use Rattle.protocol.specs.declared.Step.the-variants.{Send, Receive, PreCheck, SendRecord, Timeout, TakeRecord, TakeAck, PostCheck, TakeRepair, SendUpdate, TakeUpdate, TakeUack, Expire, Lose, Crash, Restart, Checkpoint}
 use Rattle.rules.proofs.Inside.{key-low}
+use Rattle.machine.proofs.Spread.{acksAfter, uacksAfter, contentsAfter, linksAfter}
 
 none : {n : ℕ} → (1 ≤ n → ⊥) → n ≡ 0
 none {n = zero} h = refl
@@ -73,6 +80,7 @@ some-same stores actors made hp ha (Expire k r) = simp (lt-leb stores 0 hp, lt-l
 some-same stores actors made hp ha (Lose what p k r) = simp (lt-leb actors 0 ha, or-false)
 some-same stores actors made hp ha (Crash p) = simp (lt-leb actors 0 ha, or-false)
 some-same stores actors made hp ha (Restart p) = simp (lt-leb actors 0 ha, or-false)
+some-same stores actors made hp ha (Checkpoint p) = simp (lt-leb actors 0 ha, or-false)
 
 -- in the empty machine is nothing that a step could name
 none-out : (s : Step) → outsideOf 0 0 0 s ≡ true
@@ -92,6 +100,7 @@ none-out (Expire k r) = simp leb·zero
 none-out (Lose what p k r) = simp (leb·zero, or-true)
 none-out (Crash p) = simp leb·zero
 none-out (Restart p) = simp leb·zero
+none-out (Checkpoint p) = simp leb·zero
 
 none-about : (b : About) → outsideAbout 0 0 0 b ≡ true
 none-about b = simp (leb·zero, or-true)
@@ -107,7 +116,7 @@ same-outside m e s = go (unbroken m e .setup)
         rw (p, a, made) (none-about (aboutOf s) ∙ sym (none-out s))
 
 outside-refuses : (m : State) (s : Step) → outsideOf (m .stores) (m .actors) (m .made) s ≡ true → ruleOf m s ≡ answered 2 m
-unfolding ruleOf sendNo receiveNo preCheckNo sendRecordNo timeoutNo takeRecordNo takeAckNo postCheckNo takeRepairNo sendUpdateNo takeUpdateNo takeUackNo expireNo loseNo crashNo restartNo
+unfolding ruleOf sendNo receiveNo preCheckNo sendRecordNo timeoutNo takeRecordNo takeAckNo postCheckNo takeRepairNo sendUpdateNo takeUpdateNo takeUackNo expireNo loseNo crashNo restartNo checkpointNo
 outside-refuses m (Send from to own word causes) e = simp e
 outside-refuses m (Receive k) e = simp e
 outside-refuses m (PreCheck a) e = simp e
@@ -124,6 +133,7 @@ outside-refuses m (Expire k r) e = simp e
 outside-refuses m (Lose what p k r) e = simp e
 outside-refuses m (Crash p) e = simp e
 outside-refuses m (Restart p) e = simp e
+outside-refuses m (Checkpoint p) e = simp e
 
 -- a step that is about what isn't there is refused
 pub about-refuses : (m : State) → brokenOf m ≡ false → (s : Step) (b : About) → b ≡ aboutOf s → outsideAbout (m .stores) (m .actors) (m .made) b ≡ true → ruleOf m s ≡ answered 2 m
@@ -143,6 +153,53 @@ pub record Found (m : State) (s : Step) (b : About) (a v p : ℕ) (past : Past) 
   pub acted : a ≡ pick (b .acting) (b .actor) (view m v .actor)
   pub stored : p ≡ storeOf (b .whose) (b .store) (view m v .store) (entry m v .destination)
   pub looked : past ≡ pastAbout m b v
+
+-- the slots written where they stand, with what is counted made, in flight and held
+abbrev pub placed : State → (a v p : ℕ) → Slots → ℕ → List ℕ → List ℕ → List Contents → List Links → State
+placed m a v p x made acks uacks cs ls =
+    record {
+      stores = m .stores;
+      actors = m .actors;
+      made = made;
+      homes = m .homes;
+      lists = m .lists;
+      queues = set (m .queues) a (x .queue);
+      shelves = set (m .shelves) p (x .shelf);
+      messages = set (m .messages) (v / 2) (x .message);
+      views = set (set (m .views) v (x .view)) (opposite v) (x .facing);
+      repairs = set (m .repairs) v (x .repair);
+      entries = set (set (m .entries) v (x .entry)) (opposite v) (x .other);
+      records = set (m .records) (place p v) (x .records);
+      acks = acks;
+      updates = set (m .updates) (place p v) (x .updates);
+      uacks = uacks;
+      contents = cs;
+      links = ls;
+    }
+
+-- .. those as the rule asks for them
+pub record Written (m : State) (b : About) (v p : ℕ) (x : Slots) (made : ℕ) (acks uacks : List ℕ) (cs : List Contents) (ls : List Links) : Type 0 where
+  pub made-is : made ≡ pick (b .making) (x .made) (m .made)
+  pub acks-are : acks ≡ acksAfter m v p x (x .sends)
+  pub uacks-are : uacks ≡ uacksAfter m v p x (x .sends)
+  pub contents-are : cs ≡ contentsAfter m v p x (x .sweeps)
+  pub links-are : ls ≡ linksAfter m v p x (x .sweeps)
+
+placed-is : (m : State) (b : About) (a v p : ℕ) (x : Slots) {made : ℕ} {acks uacks : List ℕ} {cs : List Contents} {ls : List Links} → Written m b v p x made acks uacks cs ls
+    → placed m a v p x made acks uacks cs ls ≡ withSwept (x .sweeps) m p (withSent (x .sends) m p (withSlotsAt m b a v p x))
+unfolding withSwept withSent swept
+placed-is m b a v p x w =
+    (λ i. placed m a v p x (w .made-is i) (w .acks-are i) (w .uacks-are i) (w .contents-are i) (w .links-are i)) ∙ go (x .sends) (x .sweeps)
+  where
+    all : Bool → Bool → State
+    all sends sweeps =
+        placed m a v p x (pick (b .making) (x .made) (m .made)) (acksAfter m v p x sends) (uacksAfter m v p x sends) (contentsAfter m v p x sweeps) (linksAfter m v p x sweeps)
+
+    go : (sends sweeps : Bool) → all sends sweeps ≡ withSwept sweeps m p (withSent sends m p (withSlotsAt m b a v p x))
+    go true true = refl
+    go true false = refl
+    go false true = refl
+    go false false = refl
 
 -- a view that is not yet received has room in its actor's queue
 room-of : (m : State) → Bounds m → (v a : ℕ) → v % 2 ≡ 1 → v / 2 < m .made → a ≡ view m v .actor → view m v .phase ≡ 0 → queue m a .len < 16
@@ -172,8 +229,14 @@ module _ {m : State} {s : Step} {b : About} {a v p : ℕ} {past : Past} (f : Fou
       }
 
   -- what the rule gives is what is written there
-  pub written : (t : Tried) → ruleOf m s ≡ outcome m s t → answered (t .answer) (withSlotsAt m b a v p (t .slots)) ≡ ruleOf m s
-  written t e = ap (answered (t .answer)) (λ i. withSlotsAt m (f .about i) (actor-is i) (view-is i) (store-is i) (t .slots)) ∙ sym e
+  pub written : (t : Tried) → ruleOf m s ≡ outcome m s t → {made : ℕ} {acks uacks : List ℕ} {cs : List Contents} {ls : List Links}
+      → Written m b v p (t .slots) made acks uacks cs ls → answered (t .answer) (placed m a v p (t .slots) made acks uacks cs ls) ≡ ruleOf m s
+  written t e w =
+      let x = t .slots in
+      ap (answered (t .answer))
+      (placed-is m b a v p x w
+      ∙ (λ i. withSwept (x .sweeps) m (store-is i) (withSent (x .sends) m (store-is i) (withSlotsAt m (f .about i) (actor-is i) (view-is i) (store-is i) x))))
+      ∙ sym e
 
   pub fits : Bounds m → outsideAbout (m .stores) (m .actors) (m .made) b ≡ false → v < 32 → a < 8 → p < 8 → Fits (aboutOf s) (slotsAt m b a v p past)
   fits low e v-low a-low p-low =

@@ -112,6 +112,7 @@ pub(crate) fn about_of(s: Step) -> About
         } => of_place(what, store, key, role),
         Step::Crash { store } => of_actor(0, 0, store),
         Step::Restart { store } => of_actor(0, 0, store),
+        Step::Checkpoint { store } => of_actor(0, 0, store),
     }
 }
 

@@ -11,6 +11,7 @@ use protocol::Step;
 
 mod about;
 mod past;
+mod places;
 mod single;
 mod steps;
 

@@ -16,13 +16,21 @@ use crate::about::names_outside;
 use crate::about::store_of;
 use crate::about::view_of;
 use crate::past::no_past;
+use crate::places::contents_of;
+use crate::places::due_of;
+use crate::places::links_of;
+use crate::places::loses;
+use crate::places::send_owed;
+use crate::places::swept_contents;
+use crate::places::swept_links;
 use protocol::Step;
 use rules::past::look_back;
 use rules::slots::Slots;
 
 impl Machine {
     // The first n steps, for who knows the machine to be unbroken; their numbers go where they are lent to, from a place on, and
-    // the last is handed back. Of the machine only the slots that a step is about are read and written, where they stand.
+    // the last is handed back. Of the machine only the slots that a step is about are read and written, where they stand, and
+    // the places of a store that a crash or a checkpoint is about.
     pub fn steps_unbroken(
         self,
         steps: [Step; 16],
@@ -58,9 +66,9 @@ impl Machine {
             let repair = m.repairs[v];
             let facing = m.views[o];
             let other = m.entries[o];
-            let shelf = m.shelves[p];
-            let contents = m.contents[at];
-            let links = m.links[sender];
+            let store = m.shelves[p];
+            let held = m.contents[at];
+            let linked = m.links[sender];
             let mut past = no_past();
             if b.back {
                 let views = m.views;
@@ -81,13 +89,15 @@ impl Machine {
                 entry: e,
                 facing,
                 other,
-                shelf,
+                shelf: store,
                 records: m.records[at],
                 acks: m.acks[at],
                 updates: m.updates[at],
                 uacks: m.uacks[at],
-                contents,
-                links,
+                contents: held,
+                links: linked,
+                sends: false,
+                sweeps: false,
             };
             let t = x.rule(s);
             let y = t.slots;
@@ -99,8 +109,8 @@ impl Machine {
             let facing = y.facing;
             let other = y.other;
             let shelf = y.shelf;
-            let contents = y.contents;
-            let links = y.links;
+            let contents = contents_of(y.sweeps, held, y.contents);
+            let links = links_of(y.sweeps, linked, y.links);
             m.made = made_of(b.making, y.made, m.made);
             m.queues[a] = queue;
             m.messages[k] = message;
@@ -116,6 +126,17 @@ impl Machine {
             m.uacks[at] = y.uacks;
             m.contents[at] = contents;
             m.links[sender] = links;
+            send_owed(&mut m.acks, p, due_of(y.sends, store.acksowed));
+            send_owed(&mut m.uacks, p, due_of(y.sends, store.uacksowed));
+            let has = shelf.held | shelf.kept;
+            if loses(y.sweeps, store.held | store.kept, has) {
+                let contents = m.contents;
+                let contents = swept_contents(contents, p, has);
+                m.contents = contents;
+                let links = m.links;
+                let links = swept_links(links, p, has);
+                m.links = links;
+            }
             room[from + i] = t.answer;
             i += 1;
         }

@@ -1,18 +1,19 @@
--- The twelve marked runs of document 01 as one table, over the definitions that the contracts cite.
+-- The twelve marked runs of document 01 as one table, with what document 02 makes of them, over the definitions that the contracts
+-- cite.
 use Prim.Native.Nat.{ℕ, _+_}
 use mathlib.Core.Path.{_≡_}
 use mathlib.Core.Bool.{Bool, true, false, _&&_, not}
 use mathlib.Core.List.{List, [], _∷_, _++_}
 use lib.Dec.{eqb}
 use lib.ListN.{take, replicate}
-use Rattle.protocol.specs.Slots.{number, view, contents, viewlink}
+use Rattle.protocol.specs.Slots.{number, view, isLasting, lastingViewlink}
 use Rattle.protocol.specs.Setup.{setupOf}
 use Rattle.protocol.specs.Broken.{brokenOf}
 use Rattle.protocol.specs.declared.State.{State}
 use Rattle.protocol.specs.declared.Setup.{Setup}
 use Rattle.protocol.specs.Step.{stepOf}
 use Rattle.protocol.specs.declared.Step.{Step}
-use Rattle.protocol.specs.declared.Step.the-variants.{Send, Receive, PreCheck, SendRecord, Timeout, TakeRecord, TakeAck, Lose, Crash, Restart}
+use Rattle.protocol.specs.declared.Step.the-variants.{Send, Receive, PreCheck, SendRecord, Timeout, TakeRecord, TakeAck, Lose, Crash, Restart, Checkpoint}
 use Rattle.protocol.specs.Drain.{drainOf}
 use Rattle.protocol.specs.Walk.{walkOf}
 
@@ -26,7 +27,7 @@ abbrev pub _⇒_ : Step → ℕ → Asked
 s ⇒ n = record { step = s; answer = n }
 
 -- what may be said of a machine: that it is the empty one; a view's phase and current store; that a store has a view, and the
--- viewlink beside it; a walk's refusal, and a walk's keys
+-- viewlink beside it, in its checkpointed state; a walk's refusal, and a walk's keys
 pub data Fact : Type 0 where
   empty : Fact
   phase : (key role n : ℕ) → Fact
@@ -68,21 +69,22 @@ abbrev pub rows : List Row
 rows =
     -- W1 M drained: 0 steps.
     onM [] [] (drained 0 [])
-    -- W2 S, drain: 11. Store 0 has the sender view, link 1; store 1 the receiver view, link 0.
-    ∷ onM ((S ⇒ 0) ∷ []) [] (drained 11 (has 0 0 0 1 ∷ has 1 0 1 0 ∷ []))
-    -- W3 S, receive, both pre-checked, sent and both records lost; drain: 18, both views at store 2, both links 2.
+    -- W2 S, drain: 13 (K4). Store 0 has the sender view, link 1; store 1 the receiver view, link 0.
+    ∷ onM ((S ⇒ 0) ∷ []) [] (drained 13 (has 0 0 0 1 ∷ has 1 0 1 0 ∷ []))
+    -- W3 S, receive, both pre-checked, sent and both records lost; drain: 22 (K4), both views at store 2, both links 2.
     ∷ onM
     ((S ⇒ 0) ∷ (Receive 0 ⇒ 0) ∷ preparesRecord 0 ++ preparesRecord 1 ++ (Lose 0 0 0 0 ⇒ 0) ∷ (Lose 0 1 0 1 ⇒ 0) ∷ [])
     []
-    (drained 18 (at 0 0 2 ∷ at 0 1 2 ∷ has 2 0 0 2 ∷ has 2 0 1 2 ∷ []))
-    -- W4 S, receive, only the sender's pre-checked, sent and lost; drain: 14. Sender at 2 link 1; receiver at 1 link 2.
+    (drained 22 (at 0 0 2 ∷ at 0 1 2 ∷ has 2 0 0 2 ∷ has 2 0 1 2 ∷ []))
+    -- W4 S, receive, only the sender's pre-checked, sent and lost; drain: 17 (K4). Sender at 2 link 1; receiver at 1 link 2.
     ∷ onM
     ((S ⇒ 0) ∷ (Receive 0 ⇒ 0) ∷ preparesRecord 0 ++ (Lose 0 0 0 0 ⇒ 0) ∷ [])
     []
-    (drained 14 (at 0 0 2 ∷ has 2 0 0 1 ∷ at 0 1 1 ∷ has 1 0 1 2 ∷ []))
-    -- W5 S, pre-check, send, store 0 takes it, timeout to 2, ack from 0: taken, phase stays 2.
+    (drained 17 (at 0 0 2 ∷ has 2 0 0 1 ∷ at 0 1 1 ∷ has 1 0 1 2 ∷ []))
+    -- W5 S, pre-check, send, store 0 takes it and makes a checkpoint, without which no ack would be in flight (K4), timeout to 2, ack
+    -- from 0: taken, phase stays 2.
     ∷ onM
-    ((S ⇒ 0) ∷ preparesRecord 0 ++ (TakeRecord 0 0 0 ⇒ 0) ∷ (Timeout 0 2 ⇒ 0) ∷ (TakeAck 0 0 0 ⇒ 0) ∷ [])
+    ((S ⇒ 0) ∷ preparesRecord 0 ++ (TakeRecord 0 0 0 ⇒ 0) ∷ (Checkpoint 0 ⇒ 0) ∷ (Timeout 0 2 ⇒ 0) ∷ (TakeAck 0 0 0 ⇒ 0) ∷ [])
     (phase 0 0 2 ∷ [])
     rests
     -- W6 send 0 to 0: 3. Own store 1 for actor 0: 8.
@@ -97,11 +99,11 @@ rows =
     ∷ onM ((Crash 0 ⇒ 0) ∷ (Crash 0 ⇒ 5) ∷ (Restart 0 ⇒ 0) ∷ (Restart 0 ⇒ 6) ∷ []) [] rests
     -- W11 list 1 for actor 0: 11, with the empty machine.
     ∷ record { setup = setupWith 1; answer = 11; steps = []; facts = empty ∷ []; next = rests }
-    -- W12 S, receive, 1 sends to 0 own 1 cause 0. Walk of 1: 13. Drain: 21. Walk of 1: 1, 0. Walk of 2: 2.
+    -- W12 S, receive, 1 sends to 0 own 1 cause 0. Walk of 1: 13. Drain: 25 (K4). Walk of 1: 1, 0. Walk of 2: 2.
     ∷ onM
     ((S ⇒ 0) ∷ (Receive 0 ⇒ 0) ∷ (Send 1 0 1 7 1 ⇒ 0) ∷ [])
     (refuses 1 13 ∷ [])
-    (drained 21 (walks 1 (1 ∷ 0 ∷ []) ∷ refuses 2 2 ∷ []))
+    (drained 25 (walks 1 (1 ∷ 0 ∷ []) ∷ refuses 2 2 ∷ []))
     ∷ []
 
 unfoldable pub same : List ℕ → List ℕ → Bool
@@ -120,7 +122,7 @@ unfolding same
 holds m empty = isEmpty m
 holds m (phase k r n) = eqb (view m (number k r) .phase) n
 holds m (at k r p) = eqb (view m (number k r) .store) p
-holds m (has p k r q) = contents m p (number k r) .held && eqb (viewlink m p (number k r)) (q + 1)
+holds m (has p k r q) = isLasting m p (number k r) && eqb (lastingViewlink m p (number k r)) (q + 1)
 holds m (refuses k n) = let w = walkOf m k in eqb (w .answer) n && eqb (w .count) 0
 holds m (walks k keys) = let w = walkOf m k in eqb (w .answer) 0 && same (take (w .count) (w .keys)) keys
 

@@ -27,8 +27,10 @@ use Rattle.protocol.specs.TakeUpdate.{takeUpdateNo, updateTaken}
 use Rattle.protocol.specs.TakeUack.{takeUackNo, uackTaken}
 use Rattle.protocol.specs.Expire.{expireNo, expired}
 use Rattle.protocol.specs.Lose.{loseNo, lost}
+use Rattle.protocol.specs.Sweep.{swept}
 use Rattle.protocol.specs.Crash.{crashNo, crashed}
 use Rattle.protocol.specs.Restart.{restartNo, restarted}
+use Rattle.protocol.specs.Checkpoint.{checkpointNo, checkpointed}
 use Rattle.protocol.specs.declared.Step.{Step}
 use Rattle.protocol.specs.Drain.{lowest, jobStep, entryStep, turnOf, allUp, drainOf}
 use Rattle.protocol.specs.Walk.{foundOf, receiptOf, hopOf, each, visitOf, unmet, walkedFrom, refusedWalk, answerOf, walkOf}
@@ -131,7 +133,7 @@ unfolding anyCheck
 any-same m k = refl
 
 pub pair-bites : PairBites
-unfolding allFrom table allBelow freshWith closedOf causesKnown sendNo sent receiveNo receivedOf preCheckNo preChecked sendRecordNo recordSent timeoutNo timedOut takeRecordNo recordTaken takeAckNo ackTaken postCheckNo postChecked takeRepairNo repairTaken sendUpdateNo updateSent takeUpdateNo updateTaken takeUackNo uackTaken expireNo expired loseNo lost crashNo crashed restartNo restarted lowest jobStep entryStep turnOf foundOf receiptOf hopOf each visitOf walkedFrom ruled ranRuled courseRuled counted lastSender ruleOne twoAdds ruleTwo passesOf checkedOf
+unfolding allFrom table allBelow freshWith closedOf causesKnown sendNo sent receiveNo receivedOf preCheckNo preChecked sendRecordNo recordSent timeoutNo timedOut takeRecordNo recordTaken takeAckNo ackTaken postCheckNo postChecked takeRepairNo repairTaken sendUpdateNo updateSent takeUpdateNo updateTaken takeUackNo uackTaken expireNo expired loseNo lost swept crashNo crashed restartNo restarted checkpointNo checkpointed lowest jobStep entryStep turnOf foundOf receiptOf hopOf each visitOf walkedFrom ruled ranRuled courseRuled counted lastSender ruleOne twoAdds ruleTwo passesOf checkedOf
 pair-bites =
     record {
       right = says rightPair 2 50331655 true true refl (omega arith) refl refl refl refl;

@@ -7,7 +7,7 @@ use mathlib.Core.List.{List, [], _∷_}
 use lib.Dec.{leb, ltb, eqb}
 use lib.ListN.{getD}
 use Rattle.protocol.specs.Words.{pick, table}
-use Rattle.protocol.specs.Slots.{number, view, contents, noContents}
+use Rattle.protocol.specs.Slots.{number, view, lastingContents, noContents}
 use Rattle.protocol.specs.declared.State.{State}
 use Rattle.protocol.specs.declared.Contents.{Contents}
 use Rattle.protocol.specs.declared.Walked.{Walked}
@@ -77,7 +77,7 @@ directCheck m rule k = directBy m (walkOf m k) rule k
 
 -- A check that reads the receipt's word.
 abbrev pub receiptOf : State → ℕ → Contents
-receiptOf m k = contents m (view m (number k 0) .store) (number k 1)
+receiptOf m k = lastingContents m (view m (number k 0) .store) (number k 1)
 
 abbrev pub receiptBy : State → Walked → ℕ → ℕ → Checked
 receiptBy m w rule k =

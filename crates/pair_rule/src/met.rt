@@ -12,7 +12,6 @@ fn nothing() -> Contents
     ensures { λ r. ⌜ r ≡ noContents ⌝ }
 {
     Contents {
-        held: false,
         asserter: 0,
         causes: 0,
         word: 0,

@@ -5,7 +5,7 @@ use mathlib.Core.List.{List}
 use lib.Dec.{leb, ltb, eqb}
 use lib.ListN.{getD}
 use Rattle.protocol.specs.Words.{pick, bit, one, table, allBelow}
-use Rattle.protocol.specs.Slots.{number, view, contents, noContents}
+use Rattle.protocol.specs.Slots.{number, view, lastingContents, noContents}
 use Rattle.protocol.specs.Walk.{walkOf}
 use Rattle.protocol.specs.declared.State.{State}
 use Rattle.protocol.specs.declared.Contents.{Contents}
@@ -21,7 +21,7 @@ bundleOf word = word % 16777216
 
 -- an interaction's sender record, in the store where it is settled: its data is the interaction's word, its asserter the sender
 abbrev pub recordOf : State → ℕ → Contents
-recordOf m k = contents m (view m (number k 0) .store) (number k 0)
+recordOf m k = lastingContents m (view m (number k 0) .store) (number k 0)
 
 -- The interactions met in a walk, in their order: the record of each of sixteen places, nothing behind the last.
 abbrev pub metAt : State → Walked → ℕ → Contents

@@ -20,6 +20,7 @@ use Rattle.protocol.specs.Drain.{allUp, drainOf}
 use Rattle.protocol.specs.Walk.{walkOf}
 use Rattle.unbroken.proofs.Laws.{unbroken}
 use Rattle.unbroken.proofs.Laws.Tests.{and-left, nor-both, not-both, by-test}
+use Rattle.unbroken.proofs.Laws.Has.{has-kept}
 use Rattle.reads.proofs.Some.{ran-append}
 use Rattle.drains.specs.Drains.{stepsOf}
 use Rattle.guarantees.specs.Acknowledged.{Legal, after}
@@ -115,7 +116,8 @@ said u l steps further i h e =
     let c = reached u l (steps ++ further) in
     let x = unbroken m (c .fine) in
     let t = there m c i 0 (omega arith) (omega (arith, closed-of m i e .0 .phase)) in
-    x .contentsAt (view m (number i 0) .store) (number i 0) (t .low) (omega (arith, t .made, x .made16)) .sameWord (t .held) ∙ told-on u l steps further i h .word
+    let p = view m (number i 0) .store in
+    x .contentsAt p (number i 0) (t .low) (omega (arith, t .made, x .made16)) .sameWord (has-kept m p (number i 0) (t .held)) ∙ told-on u l steps further i h .word
 
 module _ (u : Setup) (l : Legal u) (steps further : List Step) where
   abbrev later : State

@@ -5,8 +5,8 @@ use mathlib.Core.Bool.{Bool, _&&_, _||_, not}
 use mathlib.Core.List.{List}
 use lib.ListN.{length, getD}
 use lib.Dec.{ltb, leb, eqb}
-use Rattle.protocol.specs.Words.{pick, bit, all, times}
-use Rattle.protocol.specs.Slots.{number, place, noView, noQueue, noContents, noEntry, statusNumber, standing}
+use Rattle.protocol.specs.Words.{pick, bit, all, allBelow, times}
+use Rattle.protocol.specs.Slots.{number, noView, noQueue, noEntry, noStore, statusNumber, standing}
 use Rattle.protocol.specs.Setup.{legal}
 use Rattle.protocol.specs.declared.State.{State}
 use Rattle.protocol.specs.declared.View.{View}
@@ -116,27 +116,33 @@ recordsFine stores views l = all (copiesFine stores (λ v. leb 2 (getD views v n
 unfoldable pub updatesFine : ℕ → List Entry → List ℕ → Bool
 updatesFine stores entries l = all (copiesFine stores (λ v. leb 1 (statusNumber (getD entries v noEntry .status)))) l
 
--- contents in a store differ from the view's record; a view in phase 0 or 1 has contents in a store
+-- contents in a store, in either of its states, differ from the view's record; a view in phase 0 or 1 has contents in a store
 abbrev pub sameContents : ℕ → View → ℕ → Contents → Bool
 sameContents stores w at c =
     ltb (at / 32) stores && leb 2 (w .phase) && eqb (c .asserter) (w .actor) && eqb (c .causes) (w .causes) && eqb (c .word) (w .word)
+
+-- one of the states of a store has contents of a view
+abbrev pub hasIn : Store → ℕ → Bool
+hasIn s v = bit (s .held) v || bit (s .kept) v
 
 -- an unused slot isn't blank: where no contents are
 abbrev pub blankContents : Contents → Bool
 blankContents c = eqb (c .asserter) 0 && eqb (c .causes) 0 && eqb (c .word) 0
 
-unfoldable pub contentsFine : ℕ → List View → ℕ → Contents → Bool
-contentsFine stores views at c = let same = sameContents stores (getD views (at % 32) noView) at c in pick (c .held) same (blankContents c)
+unfoldable pub contentsFine : ℕ → List View → List Store → ℕ → Contents → Bool
+contentsFine stores views shelves at c =
+    let same = sameContents stores (getD views (at % 32) noView) at c in
+    pick (hasIn (getD shelves (at / 32) noStore) (at % 32)) same (blankContents c)
 
 -- the cause links of contents are those of the record, and blank where no contents are
 unfoldable pub sameLinks : List ℕ → List ℕ → Bool
 sameLinks a b = all (λ j link. eqb link (getD b j 0)) a
 
-unfoldable pub heldLinksFine : List Contents → List View → ℕ → Links → Bool
-heldLinksFine contents views at l =
+unfoldable pub heldLinksFine : List Store → List View → ℕ → Links → Bool
+heldLinksFine shelves views at l =
     let w = getD views (at % 16 * 2) noView in
     let same = sameLinks (l .to) (w .links) in
-    eqb (length (l .to)) 16 && pick (getD contents (place (at / 16) (at % 16 * 2)) noContents .held) same (all (λ j link. eqb link 0) (l .to))
+    eqb (length (l .to)) 16 && pick (hasIn (getD shelves (at / 16) noStore) (at % 16 * 2)) same (all (λ j link. eqb link 0) (l .to))
 
 -- a viewlink names no store; an unused slot isn't blank
 abbrev pub viewlinkFine : ℕ → ℕ → ℕ → ℕ → ℕ → Bool
@@ -145,9 +151,23 @@ viewlinkFine stores made p v l = let used = ltb p stores && ltb v (made * 2) in 
 unfoldable pub viewlinksFine : ℕ → ℕ → ℕ → List ℕ → Bool
 viewlinksFine stores made p l = eqb (length l) 32 && all (viewlinkFine stores made p) l
 
+-- an owed note counts as the copy it stands for: a view that may have none of those has none owed
+abbrev pub noteFine : (ℕ → Bool) → ℕ → ℕ → Bool
+noteFine may owed v = let some = may v in not (bit owed v) || some
+
+unfoldable pub notesFine : (ℕ → Bool) → ℕ → Bool
+notesFine may owed = allBelow 32 (noteFine may owed)
+
 -- .. nor is a store behind the last
-unfoldable pub storeFine : ℕ → ℕ → ℕ → Store → Bool
-storeFine stores made p s = (ltb p stores || not (s .up)) && viewlinksFine stores made p (s .viewlinks)
+abbrev pub blankStore : Store → Bool
+blankStore s = not (s .up) && eqb (s .held) 0 && eqb (s .kept) 0 && eqb (s .acksowed) 0 && eqb (s .uacksowed) 0
+
+unfoldable pub storeFine : ℕ → ℕ → List View → List Entry → ℕ → Store → Bool
+storeFine stores made views entries p s =
+    (ltb p stores || blankStore s)
+    && notesFine (λ v. leb 2 (getD views v noView .phase)) (s .acksowed)
+    && notesFine (λ v. leb 1 (statusNumber (getD entries v noEntry .status))) (s .uacksowed)
+    && viewlinksFine stores made p (s .viewlinks) && viewlinksFine stores made p (s .keptlinks)
 
 -- the setup, the views with their queues, what is in flight, and what the stores hold
 unfoldable pub jobsFine : State → Bool
@@ -162,9 +182,9 @@ unfoldable pub placesFine : State → Bool
 placesFine m =
     recordsFine (m .stores) (m .views) (m .records) && recordsFine (m .stores) (m .views) (m .acks)
     && updatesFine (m .stores) (m .entries) (m .updates) && updatesFine (m .stores) (m .entries) (m .uacks)
-    && all (contentsFine (m .stores) (m .views)) (m .contents)
-    && all (heldLinksFine (m .contents) (m .views)) (m .links)
-    && all (storeFine (m .stores) (m .made)) (m .shelves)
+    && all (contentsFine (m .stores) (m .views) (m .shelves)) (m .contents)
+    && all (heldLinksFine (m .shelves) (m .views)) (m .links)
+    && all (storeFine (m .stores) (m .made) (m .views) (m .entries)) (m .shelves)
 
 unfoldable pub wholeOf : State → Bool
 wholeOf m =

@@ -5,7 +5,7 @@ use mathlib.Core.List.{List, [], _∷_}
 use lib.Dec.{ltb, leb, eqb}
 use lib.ListN.{length, getD}
 use Rattle.protocol.specs.Words.{pick, bit, all}
-use Rattle.protocol.specs.Slots.{number, noView, noQueue, noRepair, noEntry, statusNumber, list, entry, recordCopies, ackCopies, updateCopies, uackCopies}
+use Rattle.protocol.specs.Slots.{number, noView, noQueue, noRepair, noEntry, statusNumber, list, entry, recordCopies, ackCopies, updateCopies, uackCopies, owesAck, owesUack}
 use Rattle.protocol.specs.Broken.{brokenOf}
 use Rattle.protocol.specs.declared.State.{State}
 use Rattle.protocol.specs.declared.View.{View}
@@ -16,7 +16,7 @@ use Rattle.protocol.specs.declared.Store.{Store}
 use Rattle.protocol.specs.Rule.{head, headView}
 use Rattle.protocol.specs.Step.{stepOf}
 use Rattle.protocol.specs.declared.Step.{Step}
-use Rattle.protocol.specs.declared.Step.the-variants.{Receive, PreCheck, SendRecord, Timeout, TakeRecord, TakeAck, PostCheck, TakeRepair, SendUpdate, TakeUpdate, TakeUack, Expire}
+use Rattle.protocol.specs.declared.Step.the-variants.{Receive, PreCheck, SendRecord, Timeout, TakeRecord, TakeAck, PostCheck, TakeRepair, SendUpdate, TakeUpdate, TakeUack, Expire, Checkpoint}
 use Rattle.protocol.specs.declared.Turn.{Turn}
 use Rattle.protocol.specs.declared.Turn.the-variants.{Take, Rest}
 use Rattle.protocol.specs.declared.Drained.{Drained}
@@ -47,25 +47,26 @@ busyIn queues a = not (eqb (getD queues a noQueue .len) 0)
 abbrev pub busy : State → ℕ
 busy m = lowest (m .actors) (busyIn (m .queues))
 
--- phase 3: take an ack from the current store if one is in flight, else that store takes a record copy if one is in flight,
--- else timeout to the lowest other store in the list
+-- phase 3: take an ack from the current store if one is in flight, else step 17 for that store if it owes one (document 02, K4),
+-- else that store takes a record copy if one is in flight, else timeout to the lowest other store in the list
 abbrev pub otherIn : ℕ → ℕ → ℕ → Bool
 otherIn listed current p = bit listed p && not (eqb current p)
 
 abbrev pub spare : State → ℕ → ℕ
 spare m a = lowest (m .stores) (otherIn (list m a) (headView m a .store))
 
--- for the head v of actor a, current store p, copies in flight there
-abbrev pub awaitingIn : (stores listed a v p acks records : ℕ) → Step
-awaitingIn stores listed a v p acks records =
+-- for the head v of actor a, current store p, copies in flight there, and whether an ack is owed there
+abbrev pub awaitingIn : (stores listed a v p acks : ℕ) → Bool → (records : ℕ) → Step
+awaitingIn stores listed a v p acks owed records =
     pick (not (eqb acks 0)) (TakeAck p (keyOf v) (roleOf v))
-    (pick (not (eqb records 0)) (TakeRecord p (keyOf v) (roleOf v)) (Timeout a (lowest stores (otherIn listed p))))
+    (pick owed (Checkpoint p)
+    (pick (not (eqb records 0)) (TakeRecord p (keyOf v) (roleOf v)) (Timeout a (lowest stores (otherIn listed p)))))
 
 abbrev pub awaiting : State → ℕ → Step
 awaiting m a =
     let v = head m a in
     let p = headView m a .store in
-    awaitingIn (m .stores) (list m a) a v p (ackCopies m p v) (recordCopies m p v)
+    awaitingIn (m .stores) (list m a) a v p (ackCopies m p v) (owesAck m p v) (recordCopies m p v)
 
 -- phase 1 pre-check, phase 2 send, phase 4 post-check
 unfoldable pub jobStep : State → ℕ → Step
@@ -80,7 +81,8 @@ repairIn repairs v = getD repairs v noRepair .flying
 abbrev pub repairDue : State → ℕ
 repairDue m = lowest (m .made * 2) (repairIn (m .repairs))
 
--- (d) lowest key, role 0 first, to-send: step 10; waiting: uack from the destination, else update there, else step 13
+-- (d) lowest key, role 0 first, to-send: step 10; waiting: uack from the destination, else step 17 for it if it owes one
+-- (document 02, K4), else update there, else step 13
 abbrev pub isUnfinished : Entry → Bool
 isUnfinished e = eqb (statusNumber (e .status)) 1 || eqb (statusNumber (e .status)) 2
 
@@ -93,17 +95,18 @@ unfinished m v = unfinishedIn (m .entries) v
 abbrev pub entryDue : State → ℕ
 entryDue m = lowest (m .made * 2) (unfinished m)
 
--- for the entry e of view v, copies in flight at its destination
-abbrev pub entryIn : ℕ → Entry → (uacks updates : ℕ) → Step
-entryIn v e uacks updates =
+-- for the entry e of view v, copies in flight at its destination, and whether a uack is owed there
+abbrev pub entryIn : ℕ → Entry → (uacks : ℕ) → Bool → (updates : ℕ) → Step
+entryIn v e uacks owed updates =
     pick (eqb (statusNumber (e .status)) 1) (SendUpdate (keyOf v) (roleOf v))
     (pick (not (eqb uacks 0)) (TakeUack (e .destination) (keyOf v) (roleOf v))
-    (pick (not (eqb updates 0)) (TakeUpdate (e .destination) (keyOf v) (roleOf v)) (Expire (keyOf v) (roleOf v))))
+    (pick owed (Checkpoint (e .destination))
+    (pick (not (eqb updates 0)) (TakeUpdate (e .destination) (keyOf v) (roleOf v)) (Expire (keyOf v) (roleOf v)))))
 
 unfoldable pub entryStep : State → ℕ → Step
 entryStep m v =
     let p = entry m v .destination in
-    entryIn v (entry m v) (uackCopies m p v) (updateCopies m p v)
+    entryIn v (entry m v) (uackCopies m p v) (owesUack m p v) (updateCopies m p v)
 
 -- each time the first that applies: (a), (b), then what the coordinator does, (c) and (d)
 abbrev pub coordinatorTurn : State → Turn
@@ -146,9 +149,9 @@ allUp m = all (upIn (m .stores)) (m .shelves)
 abbrev pub drained : Course → Drained
 drained c = record { state = c .state; answer = 0; count = length (c .steps) }
 
--- until none of these applies, and stops at 18 times the number of interactions in any case
+-- until none of these applies, and stops at 22 steps for each interaction in any case
 unfoldable pub drainOf : State → Drained
 drainOf m =
     pick (brokenOf m) (record { state = m; answer = 1; count = 0 })
     (pick (not (allUp m)) (record { state = m; answer = 5; count = 0 })
-    (drained (course (m .made * 18) m)))
+    (drained (course (m .made * 22) m)))

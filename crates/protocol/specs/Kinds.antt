@@ -5,7 +5,7 @@ use lib.Dec.{eqb}
 use lib.ListN.{getD}
 use Rattle.protocol.specs.Words.{pick}
 use Rattle.protocol.specs.declared.Step.{Step}
-use Rattle.protocol.specs.declared.Step.the-variants.{Send, Receive, PreCheck, SendRecord, Timeout, TakeRecord, TakeAck, PostCheck, TakeRepair, SendUpdate, TakeUpdate, TakeUack, Expire, Lose, Crash, Restart}
+use Rattle.protocol.specs.declared.Step.the-variants.{Send, Receive, PreCheck, SendRecord, Timeout, TakeRecord, TakeAck, PostCheck, TakeRepair, SendUpdate, TakeUpdate, TakeUack, Expire, Lose, Crash, Restart, Checkpoint}
 
 -- document 01's number of the kind, then its fields in their order
 abbrev pub numbers : Step → List ℕ
@@ -25,6 +25,7 @@ numbers (Expire k r) = 13 ∷ k ∷ r ∷ []
 numbers (Lose what p k r) = 14 ∷ what ∷ p ∷ k ∷ r ∷ []
 numbers (Crash p) = 15 ∷ p ∷ []
 numbers (Restart p) = 16 ∷ p ∷ []
+numbers (Checkpoint p) = 17 ∷ p ∷ []
 
 abbrev pub kind : Step → ℕ
 kind s = getD (numbers s) 0 0
@@ -56,3 +57,6 @@ onCrash s said rest = pick (eqb (kind s) 15) (said (field s 1)) rest
 
 abbrev pub onRestart : {A : Type 0} → Step → ((store : ℕ) → A) → A → A
 onRestart s said rest = pick (eqb (kind s) 16) (said (field s 1)) rest
+
+abbrev pub onCheckpoint : {A : Type 0} → Step → ((store : ℕ) → A) → A → A
+onCheckpoint s said rest = pick (eqb (kind s) 17) (said (field s 1)) rest

@@ -2,6 +2,7 @@ pub mod Numbers
 pub mod Words
 pub mod Outcome
 pub mod Views
+pub mod Stores
 pub mod Slots
 pub mod Writes
 pub mod Setup
@@ -22,8 +23,10 @@ pub mod TakeUpdate
 pub mod TakeUack
 pub mod Expire
 pub mod Lose
+pub mod Sweep
 pub mod Crash
 pub mod Restart
+pub mod Checkpoint
 pub mod Step
 pub mod Kinds
 pub mod Steps

@@ -1,8 +1,9 @@
 -- Step 16, restart: store.
 use Prim.Native.Nat.{ℕ}
 use mathlib.Core.Bool.{true}
-use Rattle.protocol.specs.Slots.{isUp}
-use Rattle.protocol.specs.Writes.{withUpAt}
+use Rattle.protocol.specs.Slots.{isUp, shelf}
+use Rattle.protocol.specs.Stores.{turned}
+use Rattle.protocol.specs.Writes.{withShelf}
 use Rattle.protocol.specs.declared.State.{State}
 use Rattle.protocol.specs.Rule.{refused, taken, outside}
 
@@ -12,4 +13,4 @@ restartNo m p = refused 2 (outside p (m .stores)) (refused 6 (isUp m p) taken)
 
 -- .. becomes up.
 unfoldable pub restarted : State → ℕ → State
-restarted m p = withUpAt m p true
+restarted m p = withShelf m p (turned (shelf m p) true)

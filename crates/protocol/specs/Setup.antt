@@ -1,18 +1,18 @@
 -- The setup: which are illegal, the fresh machine of a legal one, and the empty machine.
 use Prim.Native.Nat.{ℕ, _+_, _/_, _%_, _^_}
-use mathlib.Core.Bool.{Bool, false, _&&_, _||_}
+use mathlib.Core.Bool.{Bool, _&&_, _||_}
 use mathlib.Core.List.{List}
 use lib.ListN.{getD, replicate}
 use lib.Dec.{ltb, leb, eqb}
 use Rattle.protocol.specs.Words.{pick, bit, all, table}
 use Rattle.protocol.specs.Views.{blankView}
+use Rattle.protocol.specs.Stores.{freshStore}
 use Rattle.protocol.specs.Slots.{noContents, noMessage, noRepair, noEntry}
 use Rattle.protocol.specs.declared.State.{State}
 use Rattle.protocol.specs.declared.Setup.{Setup}
 use Rattle.protocol.specs.Outcome.{Outcome}
 use Rattle.protocol.specs.declared.Queue.{Queue}
 use Rattle.protocol.specs.declared.Links.{Links}
-use Rattle.protocol.specs.declared.Store.{Store}
 
 -- how many stores a list has
 abbrev pub storesIn : ℕ → ℕ
@@ -37,9 +37,6 @@ blankQueue = record { len = 0; views = replicate 16 0 }
 
 abbrev pub blankLinks : Links
 blankLinks = record { to = replicate 16 0 }
-
-abbrev pub freshStore : Bool → Store
-freshStore up = record { up = up; viewlinks = replicate 32 0 }
 
 -- what an actor's row says, blank behind the last actor
 abbrev pub ofActors : ℕ → List ℕ → ℕ → ℕ

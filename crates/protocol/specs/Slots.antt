@@ -12,9 +12,11 @@ use Rattle.protocol.specs.declared.Message.{Message}
 use Rattle.protocol.specs.declared.Repair.{Repair}
 use Rattle.protocol.specs.declared.Entry.{Entry}
 use Rattle.protocol.specs.declared.Store.{Store}
+use Rattle.protocol.specs.Words.{bit}
 use Rattle.protocol.specs.declared.Status.the-variants.{Nothing}
 pub use Rattle.protocol.specs.Numbers.{statusNumber}
 pub use Rattle.protocol.specs.Views.{noView}
+pub use Rattle.protocol.specs.Stores.{noStore}
 
 -- the number of a view: role 0 the sender's, role 1 the receiver's
 abbrev pub number : ℕ → ℕ → ℕ
@@ -32,7 +34,7 @@ abbrev pub noQueue : Queue
 noQueue = record { len = 0; views = [] }
 
 abbrev pub noContents : Contents
-noContents = record { held = false; asserter = 0; causes = 0; word = 0 }
+noContents = record { asserter = 0; causes = 0; word = 0 }
 
 abbrev pub noLinks : Links
 noLinks = record { to = [] }
@@ -45,9 +47,6 @@ noRepair = record { flying = false; destination = 0; own = 0 }
 
 abbrev pub noEntry : Entry
 noEntry = record { status = Nothing; destination = 0; own = 0 }
-
-abbrev pub noStore : Store
-noStore = record { up = false; viewlinks = [] }
 
 -- by actor
 abbrev pub home : State → ℕ → ℕ
@@ -96,17 +95,38 @@ updateCopies m p v = getD (m .updates) (place p v) 0
 abbrev pub uackCopies : State → ℕ → ℕ → ℕ
 uackCopies m p v = getD (m .uacks) (place p v) 0
 
--- what a store holds: contents for a view; a sender's cause links; a viewlink, 0 for none and p + 1 for store p
+-- what a store has of a view's record, in its working state, its checkpointed one or both: contents; a sender's cause links
 abbrev pub contents : State → ℕ → ℕ → Contents
 contents m p v = getD (m .contents) (place p v) noContents
 
 abbrev pub causeLinks : State → ℕ → ℕ → List ℕ
 causeLinks m p k = getD (m .links) (linksPlace p k) noLinks .to
 
+-- the working state: whether contents for a view are there; a viewlink, 0 for none and p + 1 for store p
+abbrev pub isHeld : State → ℕ → ℕ → Bool
+isHeld m p v = bit (shelf m p .held) v
+
 abbrev pub viewlink : State → ℕ → ℕ → ℕ
 viewlink m p v = getD (shelf m p .viewlinks) v 0
 
--- what lasts in a store, whatever becomes of it: what the walk, the listing and the guarantees read
+-- the checkpointed state
+abbrev pub isKept : State → ℕ → ℕ → Bool
+isKept m p v = bit (shelf m p .kept) v
+
+abbrev pub keptViewlink : State → ℕ → ℕ → ℕ
+keptViewlink m p v = getD (shelf m p .keptlinks) v 0
+
+-- the notes: an ack, a uack is owed of a view
+abbrev pub owesAck : State → ℕ → ℕ → Bool
+owesAck m p v = bit (shelf m p .acksowed) v
+
+abbrev pub owesUack : State → ℕ → ℕ → Bool
+owesUack m p v = bit (shelf m p .uacksowed) v
+
+-- what lasts in a store, whatever becomes of it: the checkpointed state. The walk, the listing and the guarantees read these
+abbrev pub isLasting : State → ℕ → ℕ → Bool
+isLasting m p v = isKept m p v
+
 abbrev pub lastingContents : State → ℕ → ℕ → Contents
 lastingContents m p v = contents m p v
 
@@ -114,4 +134,4 @@ abbrev pub lastingCauseLinks : State → ℕ → ℕ → List ℕ
 lastingCauseLinks m p k = causeLinks m p k
 
 abbrev pub lastingViewlink : State → ℕ → ℕ → ℕ
-lastingViewlink m p v = viewlink m p v
+lastingViewlink m p v = keptViewlink m p v

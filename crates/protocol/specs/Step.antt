@@ -22,8 +22,9 @@ use Rattle.protocol.specs.Expire.{expireNo, expired}
 use Rattle.protocol.specs.Lose.{loseNo, lost}
 use Rattle.protocol.specs.Crash.{crashNo, crashed}
 use Rattle.protocol.specs.Restart.{restartNo, restarted}
+use Rattle.protocol.specs.Checkpoint.{checkpointNo, checkpointed}
 use Rattle.protocol.specs.declared.Step.{Step}
-use Rattle.protocol.specs.declared.Step.the-variants.{Send, Receive, PreCheck, SendRecord, Timeout, TakeRecord, TakeAck, PostCheck, TakeRepair, SendUpdate, TakeUpdate, TakeUack, Expire, Lose, Crash, Restart}
+use Rattle.protocol.specs.declared.Step.the-variants.{Send, Receive, PreCheck, SendRecord, Timeout, TakeRecord, TakeAck, PostCheck, TakeRepair, SendUpdate, TakeUpdate, TakeUack, Expire, Lose, Crash, Restart, Checkpoint}
 
 -- the number that refuses a step, 0 where it is taken
 abbrev pub numberOf : State → Step → ℕ
@@ -43,6 +44,7 @@ numberOf m (Expire k r) = expireNo m k r
 numberOf m (Lose what p k r) = loseNo m what p k r
 numberOf m (Crash p) = crashNo m p
 numberOf m (Restart p) = restartNo m p
+numberOf m (Checkpoint p) = checkpointNo m p
 
 -- the machine that the rule states
 abbrev pub afterOf : State → Step → State
@@ -62,6 +64,7 @@ afterOf m (Expire k r) = expired m k r
 afterOf m (Lose what p k r) = lost m what p k r
 afterOf m (Crash p) = crashed m p
 afterOf m (Restart p) = restarted m p
+afterOf m (Checkpoint p) = checkpointed m p
 
 -- the rule alone, for a machine that is not broken
 unfoldable pub ruleOf : State → Step → Outcome

@@ -4,7 +4,7 @@ use mathlib.Core.Bool.{Bool, true, false, _&&_, not}
 use lib.Dec.{leb, eqb}
 use lib.ListN.{getD, set, replicate}
 use Rattle.protocol.specs.Words.{pick, bit}
-use Rattle.protocol.specs.Slots.{number, view, lastingContents, lastingCauseLinks, lastingViewlink}
+use Rattle.protocol.specs.Slots.{number, view, isLasting, lastingContents, lastingCauseLinks, lastingViewlink}
 use Rattle.protocol.specs.Closed.{closedOf}
 use Rattle.protocol.specs.Broken.{brokenOf}
 use Rattle.protocol.specs.declared.State.{State}
@@ -25,7 +25,7 @@ lookedUp w = record { fine = w .fine; met = w .met; keys = w .keys; count = w .c
 
 -- a sender record by a link, 0 for none and p + 1 for store p: the store holds its contents, and its key is closed
 unfoldable pub foundOf : State → ℕ → ℕ → Bool
-foundOf m k link = not (eqb link 0) && lastingContents m (link - 1) (number k 0) .held && closedOf m k
+foundOf m k link = not (eqb link 0) && isLasting m (link - 1) (number k 0) && closedOf m k
 
 -- its causes, as the store holds them
 abbrev pub causesHeld : State → ℕ → ℕ → ℕ
@@ -33,7 +33,7 @@ causesHeld m k link = lastingContents m (link - 1) (number k 0) .causes
 
 -- by the receipt's viewlink to the opposite sender record; none where the receipt isn't held
 unfoldable pub receiptOf : State → ℕ → ℕ → ℕ
-receiptOf m p j = pick (lastingContents m p (number j 1) .held) (lastingViewlink m p (number j 1)) 0
+receiptOf m p j = pick (isLasting m p (number j 1)) (lastingViewlink m p (number j 1)) 0
 
 -- by the cause link to the receipt
 unfoldable pub hopOf : State → ℕ → ℕ → ℕ → ℕ

@@ -3,6 +3,7 @@ use Prim.Native.Nat.{ℕ, zero, suc, _+_, _/_, _%_, _^_}
 use mathlib.Core.Bool.{Bool, true, false, _&&_}
 use mathlib.Core.List.{List, [], _∷_, _++_}
 use lib.Dec.{eqb}
+use lib.Bits.{bitOr}
 
 abbrev pub pick {ℓ} : {A : Type ℓ} → Bool → A → A → A
 pick true a b = a
@@ -11,6 +12,10 @@ pick false a b = b
 -- bit i of a set that is given as a number
 abbrev pub bit : ℕ → ℕ → Bool
 bit set i = eqb (set / 2 ^ i % 2) 1
+
+-- a set with i in it
+abbrev pub joined : ℕ → ℕ → ℕ
+joined set i = bitOr set (2 ^ i)
 
 -- a flag as a number
 abbrev pub one : Bool → ℕ

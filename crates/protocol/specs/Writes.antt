@@ -1,9 +1,8 @@
 -- A machine with one of its arrays, or one slot, written anew; all else stays.
 use Prim.Native.Nat.{ℕ}
-use mathlib.Core.Bool.{Bool}
 use mathlib.Core.List.{List}
 use lib.ListN.{set}
-use Rattle.protocol.specs.Slots.{place, linksPlace, shelf}
+use Rattle.protocol.specs.Slots.{place, linksPlace}
 use Rattle.protocol.specs.declared.State.{State}
 use Rattle.protocol.specs.declared.View.{View}
 use Rattle.protocol.specs.declared.Queue.{Queue}
@@ -308,13 +307,6 @@ withQueue m i x = withQueues m (set (m .queues) i x)
 abbrev pub withShelf : State → ℕ → Store → State
 withShelf m i x = withShelves m (set (m .shelves) i x)
 
--- .., up or down
-abbrev pub turned : Store → Bool → Store
-turned s b = record { up = b; viewlinks = s .viewlinks }
-
-abbrev pub withUpAt : State → ℕ → Bool → State
-withUpAt m p b = withShelf m p (turned (shelf m p) b)
-
 -- by interaction, and by view
 abbrev pub withMessage : State → ℕ → Message → State
 withMessage m i x = withMessages m (set (m .messages) i x)
@@ -341,15 +333,9 @@ withUpdateCopies m p v n = withUpdates m (set (m .updates) (place p v) n)
 abbrev pub withUackCopies : State → ℕ → ℕ → ℕ → State
 withUackCopies m p v n = withUacks m (set (m .uacks) (place p v) n)
 
--- what a store holds: contents for a view; a sender's cause links; a viewlink
+-- what a store has of a view's record: contents; a sender's cause links
 abbrev pub withContentsAt : State → ℕ → ℕ → Contents → State
 withContentsAt m p v c = withContents m (set (m .contents) (place p v) c)
 
 abbrev pub withCauseLinks : State → ℕ → ℕ → Links → State
 withCauseLinks m p k l = withLinks m (set (m .links) (linksPlace p k) l)
-
-abbrev pub relinkedAt : Store → ℕ → ℕ → Store
-relinkedAt s v l = record { up = s .up; viewlinks = set (s .viewlinks) v l }
-
-abbrev pub withViewlink : State → ℕ → ℕ → ℕ → State
-withViewlink m p v l = withShelf m p (relinkedAt (shelf m p) v l)

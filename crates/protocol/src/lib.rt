@@ -46,9 +46,8 @@ pub struct Queue {
     pub views: [u8; 16],
 }
 
-// What a store holds for a view: nothing, or an asserter, a data word and causes.
+// What a store holds of a view's record: an asserter, a data word and causes; zeros where neither of its states has it.
 pub struct Contents {
-    pub held: bool,
     pub asserter: u8,
     pub causes: u16,
     pub word: u32,
@@ -59,10 +58,19 @@ pub struct Links {
     pub to: [u8; 16],
 }
 
-// A store: up or down; its viewlinks by view, 0 for none and p + 1 for store p.
+// A store: up or down; its working state, its checkpointed one and the notes that it owes. Sets of views have bit v for view v;
+// a viewlink is 0 for none and p + 1 for store p.
 pub struct Store {
     pub up: bool,
+    // The views whose contents it has, working and checkpointed.
+    pub held: u32,
+    pub kept: u32,
+    // The views of which it owes an ack, and a uack.
+    pub acksowed: u32,
+    pub uacksowed: u32,
+    // The viewlinks by view, working and checkpointed.
     pub viewlinks: [u8; 32],
+    pub keptlinks: [u8; 32],
 }
 
 // An application message: nothing, or the own store and data word that were sent.
@@ -139,7 +147,7 @@ pub struct Setup {
     pub lists: [u8; 8],
 }
 
-// A step is one of sixteen kinds, each with its own fields.
+// A step is one of seventeen kinds, each with its own fields.
 pub enum Step {
     Send {
         from: u8,
@@ -206,6 +214,9 @@ pub enum Step {
         store: u8,
     },
     Restart {
+        store: u8,
+    },
+    Checkpoint {
         store: u8,
     },
 }

@@ -12,7 +12,7 @@ use lib.ListN.{length, getD, set, take, length-set}
 use lib.Seq.{getD-set-same, getD-set-other, take-suc-set}
 use borrow.Author.Tests.{not-true, eqb-true, eqb-false, eq-eqb, ne-eqb, leb-true, leb-false, le-leb}
 use Rattle.protocol.specs.Words.{pick, bit}
-use Rattle.protocol.specs.Slots.{number, view, contents}
+use Rattle.protocol.specs.Slots.{number, view, isLasting}
 use Rattle.protocol.specs.Broken.{brokenOf}
 use Rattle.protocol.specs.Closed.{closedOf}
 use Rattle.protocol.specs.declared.State.{State}
@@ -182,26 +182,26 @@ module _ (m : State) where
   unfolding foundOf
   unfound x f =
       by-test (eqb (x .link) 0) (λ e. noLink (eqb-true (x .link) 0 e))
-      (λ e. by-test (contents m (x .link - 1) (number (x .key) 0) .held)
+      (λ e. by-test (isLasting m (x .link - 1) (number (x .key) 0))
       (λ h. by-test (closedOf m (x .key)) (λ c. absurd (false≢true (sym f ∙ and-both _ _ (and-both _ _ (ap not e) h) c))) (λ c. isOpen c)) (λ h. noEntry h))
 
   module _ (x : Lookup) (f : Found x) where
     linked : not (eqb (x .link) 0) ≡ true
     unfolding foundOf
-    linked = and-left (not (eqb (x .link) 0)) (contents m (x .link - 1) (number (x .key) 0) .held) (and-left _ (closedOf m (x .key)) f)
+    linked = and-left (not (eqb (x .link) 0)) (isLasting m (x .link - 1) (number (x .key) 0)) (and-left _ (closedOf m (x .key)) f)
 
-    held : contents m (x .link - 1) (number (x .key) 0) .held ≡ true
+    lasting : isLasting m (x .link - 1) (number (x .key) 0) ≡ true
     unfolding foundOf
-    held = and-right (not (eqb (x .link) 0)) (contents m (x .link - 1) (number (x .key) 0) .held) (and-left _ (closedOf m (x .key)) f)
+    lasting = and-right (not (eqb (x .link) 0)) (isLasting m (x .link - 1) (number (x .key) 0)) (and-left _ (closedOf m (x .key)) f)
 
     closed : closedOf m (x .key) ≡ true
     unfolding foundOf
-    closed = and-right (not (eqb (x .link) 0) && contents m (x .link - 1) (number (x .key) 0) .held) (closedOf m (x .key)) f
+    closed = and-right (not (eqb (x .link) 0) && isLasting m (x .link - 1) (number (x .key) 0)) (closedOf m (x .key)) f
 
   not-found : (x : Lookup) → Unfound m x → Found x → ⊥
   not-found x (isOpen e) f = not-both (closedOf m (x .key)) (closed x f) e
   not-found x (noLink e) f = eqb-false (x .link) 0 (not-true (eqb (x .link) 0) (linked x f)) e
-  not-found x (noEntry e) f = not-both (contents m (x .link - 1) (number (x .key) 0) .held) (held x f) e
+  not-found x (noEntry e) f = not-both (isLasting m (x .link - 1) (number (x .key) 0)) (lasting x f) e
 
   module _ (k : ℕ) where
     numbers : {n : ℕ} → Applies m k n → (n ≡ 1) ⊎ (n ≡ 2) ⊎ (n ≡ 13)

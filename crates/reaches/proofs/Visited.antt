@@ -1,7 +1,7 @@
 -- A visit that stays fine meets its key, all it newly meets is reached, and the causes of what it newly meets are met.
 -- The records' causes are those that the stores hold, because the machine is not broken. By induction on the depth; assumes nothing.
 use Prim.Native.Nat.{ℕ, zero, suc, _+_, _-_, _/_, _≤_, _<_}
-use mathlib.Core.Path.{_≡_, refl, sym, ap, subst, _∙_}
+use mathlib.Core.Path.{_≡_, refl, sym, subst}
 use mathlib.Core.Logic.{_⊎_, inl, inr, ⊎-elim}
 use mathlib.Core.Bool.{Bool, true, false, not, _&&_, false≢true}
 use native.Mathlib.Omega.{arith}
@@ -10,14 +10,15 @@ use lib.Dec.{eqb}
 use lib.ListN.{getD}
 use borrow.Author.Tests.{not-true}
 use Rattle.protocol.specs.Words.{pick, bit}
-use Rattle.protocol.specs.Slots.{number, view, contents}
+use Rattle.protocol.specs.Slots.{number, view, isLasting}
 use Rattle.protocol.specs.Closed.{closedOf}
 use Rattle.unbroken.specs.Unbroken.{Unbroken}
 use Rattle.protocol.specs.declared.State.{State}
 use Rattle.unbroken.proofs.Laws.Tests.{and-left, and-right}
+use Rattle.unbroken.proofs.Laws.Has.{has-kept}
 use Rattle.protocol.specs.declared.Met.{Met}
 use Rattle.protocol.specs.Walk.{added, spoiled, lookedUp, foundOf, causesHeld, hopOf, each, isDue, toCause, visitOf}
-use Rattle.reaches.proofs.Behind.{nothing-held}
+use Rattle.reaches.proofs.Behind.{lasting-slot}
 use Rattle.reaches.specs.Reaches.{Cause, Reach, here, by}
 use Rattle.reaches.proofs.Keys.{IsMet, Sound, Added, adds}
 
@@ -96,15 +97,12 @@ module _ (m : State) (top : ℕ) (g : ℕ → Met → Met) (visits : (j : ℕ) (
       }
 
 module _ (m : State) (u : Unbroken m) where
-  -- what is found is held, so its causes are the record's
+  -- what is found lasts, so its causes are the record's
   found-causes : (k link : ℕ) → k < 16 → foundOf m k link ≡ true → causesHeld m k link ≡ view m (number k 0) .causes
   unfolding foundOf
   found-causes k link b e =
-      let held : contents m (link - 1) (number k 0) .held ≡ true = and-right (not (eqb link 0)) (contents m (link - 1) (number k 0) .held) (and-left _ (closedOf m k) e) in
-      elim (decLt (link - 1) 8) [
-        | yes l ↦ u .contentsAt (link - 1) (number k 0) l (omega arith) .sameCauses held
-        | no l ↦ absurd (false≢true (sym (ap (λ (c : _). c .held) (nothing-held m (u .sized .contents) (link - 1) (number k 0) (omega arith))) ∙ held))
-      ]
+      let lasts : isLasting m (link - 1) (number k 0) ≡ true = and-right (not (eqb link 0)) (isLasting m (link - 1) (number k 0)) (and-left _ (closedOf m k) e) in
+      lasting-slot m u (link - 1) (number k 0) (omega arith) lasts .sameCauses (has-kept m (link - 1) (number k 0) lasts)
 
   below : (k c : ℕ) → k < 16 → Cause m k c → c < k
   below k c b h = let l : c < number k 0 / 2 = u .viewAt (number k 0) (omega arith) .causes .below c (h .low) (h .set) in omega arith

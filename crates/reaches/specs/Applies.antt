@@ -5,7 +5,7 @@ use mathlib.Core.Bool.{Bool, true, false, _||_}
 use mathlib.Core.List.{List, [], _∷_, _++_, map, List·Memᴰ}
 use lib.Dec.{eqb}
 use Rattle.protocol.specs.Words.{pick, bit}
-use Rattle.protocol.specs.Slots.{number, view, contents}
+use Rattle.protocol.specs.Slots.{number, view, isLasting}
 use Rattle.protocol.specs.Broken.{brokenOf}
 use Rattle.protocol.specs.Closed.{closedOf}
 use Rattle.protocol.specs.declared.State.{State}
@@ -43,7 +43,7 @@ lookups m k = looked 16 m k (view m (number k 0) .store + 1) []
 pub data Unfound (m : State) (x : Lookup) : Type 0 where
   isOpen : closedOf m (x .key) ≡ false → Unfound m x
   noLink : x .link ≡ 0 → Unfound m x
-  noEntry : contents m (x .link - 1) (number (x .key) 0) .held ≡ false → Unfound m x
+  noEntry : isLasting m (x .link - 1) (number (x .key) 0) ≡ false → Unfound m x
 
 pub data Applies (m : State) (k : ℕ) : ℕ → Type 0 where
   -- 1 broken machine value

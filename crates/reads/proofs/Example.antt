@@ -8,7 +8,7 @@ use lib.ListN.{length, getD}
 use Rattle.protocol.specs.Words.{allFrom, table, times, allBelow}
 use Rattle.protocol.specs.Slots.{number, view}
 use Rattle.protocol.specs.Setup.{legalActor, legalActors, legal, freshWith, emptyMachine, setupOf}
-use Rattle.protocol.specs.Broken.{slotsFine, setupFine, rowsFine, linksFine, viewFine, queueFine, messageFine, repairFine, entryFine, recordsFine, updatesFine, contentsFine, sameLinks, heldLinksFine, viewlinksFine, storeFine, jobsFine, placesFine, wholeOf, brokenOf}
+use Rattle.protocol.specs.Broken.{slotsFine, setupFine, rowsFine, linksFine, viewFine, queueFine, messageFine, repairFine, entryFine, recordsFine, updatesFine, contentsFine, sameLinks, heldLinksFine, viewlinksFine, notesFine, storeFine, jobsFine, placesFine, wholeOf, brokenOf}
 use Rattle.protocol.specs.Send.{causesKnown, sendNo, sent}
 use Rattle.protocol.specs.Receive.{receiveNo, receivedOf}
 use Rattle.protocol.specs.Timeout.{timeoutNo, timedOut}
@@ -20,16 +20,16 @@ use Rattle.protocol.specs.Listing.{large, decimal, countsLine, linkText, placeT
 use Rattle.reads.specs.Run.{folded, after, example, ExampleRuns, Program, Meets, IdleShutOut}
 
 pub example-runs : ExampleRuns
-unfolding allFrom table times allBelow legalActor legalActors legal freshWith emptyMachine slotsFine setupFine rowsFine linksFine viewFine queueFine messageFine repairFine entryFine recordsFine updatesFine contentsFine sameLinks heldLinksFine viewlinksFine storeFine jobsFine placesFine wholeOf brokenOf causesKnown sendNo sent receiveNo receivedOf timeoutNo timedOut ruleOf stepOf widthOf repairMade shortMade stepMade readStep validFrom stepsFrom startOf countOf wellFormed setupRead ran answers bookNo runOf filled bufferOf large decimal countsLine linkText placeText lineOf viewLine linesTo listingOf
+unfolding allFrom table times allBelow legalActor legalActors legal freshWith emptyMachine slotsFine setupFine rowsFine linksFine viewFine queueFine messageFine repairFine entryFine recordsFine updatesFine contentsFine sameLinks heldLinksFine viewlinksFine notesFine storeFine jobsFine placesFine wholeOf brokenOf causesKnown sendNo sent receiveNo receivedOf timeoutNo timedOut ruleOf stepOf widthOf repairMade shortMade stepMade readStep validFrom stepsFrom startOf countOf wellFormed setupRead ran answers bookNo runOf filled bufferOf large decimal countsLine linkText placeText lineOf viewLine linesTo listingOf
 example-runs = record { refusal = refl; listing = refl; answered = refl }
 
 -- the same of what was made and received, of the steps, and of the machines that an idle program would give
 example-made : runOf example 4 .state .made ≡ 1
-unfolding allFrom table times allBelow legalActor legalActors legal freshWith emptyMachine slotsFine setupFine rowsFine linksFine viewFine queueFine messageFine repairFine entryFine recordsFine updatesFine contentsFine sameLinks heldLinksFine viewlinksFine storeFine jobsFine placesFine wholeOf brokenOf causesKnown sendNo sent receiveNo receivedOf timeoutNo timedOut ruleOf stepOf widthOf repairMade shortMade stepMade readStep validFrom stepsFrom startOf countOf wellFormed setupRead ran answers bookNo runOf filled bufferOf
+unfolding allFrom table times allBelow legalActor legalActors legal freshWith emptyMachine slotsFine setupFine rowsFine linksFine viewFine queueFine messageFine repairFine entryFine recordsFine updatesFine contentsFine sameLinks heldLinksFine viewlinksFine notesFine storeFine jobsFine placesFine wholeOf brokenOf causesKnown sendNo sent receiveNo receivedOf timeoutNo timedOut ruleOf stepOf widthOf repairMade shortMade stepMade readStep validFrom stepsFrom startOf countOf wellFormed setupRead ran answers bookNo runOf filled bufferOf
 example-made = refl
 
 example-phase : view (runOf example 4 .state) (number 0 1) .phase ≡ 1
-unfolding allFrom table times allBelow legalActor legalActors legal freshWith emptyMachine slotsFine setupFine rowsFine linksFine viewFine queueFine messageFine repairFine entryFine recordsFine updatesFine contentsFine sameLinks heldLinksFine viewlinksFine storeFine jobsFine placesFine wholeOf brokenOf causesKnown sendNo sent receiveNo receivedOf timeoutNo timedOut ruleOf stepOf widthOf repairMade shortMade stepMade readStep validFrom stepsFrom startOf countOf wellFormed setupRead ran answers bookNo runOf filled bufferOf
+unfolding allFrom table times allBelow legalActor legalActors legal freshWith emptyMachine slotsFine setupFine rowsFine linksFine viewFine queueFine messageFine repairFine entryFine recordsFine updatesFine contentsFine sameLinks heldLinksFine viewlinksFine notesFine storeFine jobsFine placesFine wholeOf brokenOf causesKnown sendNo sent receiveNo receivedOf timeoutNo timedOut ruleOf stepOf widthOf repairMade shortMade stepMade readStep validFrom stepsFrom startOf countOf wellFormed setupRead ran answers bookNo runOf filled bufferOf
 example-phase = refl
 
 example-steps : readingOf example .steps ≡ Send 0 1 0 7 0 ∷ Receive 0 ∷ Timeout 0 2 ∷ []
@@ -41,7 +41,7 @@ unfolding folded allFrom table legalActor legalActors legal freshWith emptyMachi
 fresh-made = refl
 
 first-phase : view (after example (Send 0 1 0 7 0 ∷ [])) (number 0 1) .phase ≡ 0
-unfolding folded allFrom table times allBelow legalActor legalActors legal freshWith emptyMachine setupOf slotsFine setupFine rowsFine linksFine viewFine queueFine messageFine repairFine entryFine recordsFine updatesFine contentsFine sameLinks heldLinksFine viewlinksFine storeFine jobsFine placesFine wholeOf brokenOf causesKnown sendNo sent ruleOf stepOf setupRead
+unfolding folded allFrom table times allBelow legalActor legalActors legal freshWith emptyMachine setupOf slotsFine setupFine rowsFine linksFine viewFine queueFine messageFine repairFine entryFine recordsFine updatesFine contentsFine sameLinks heldLinksFine viewlinksFine notesFine storeFine jobsFine placesFine wholeOf brokenOf causesKnown sendNo sent ruleOf stepOf setupRead
 first-phase = refl
 
 -- a send, its receipt, and the same again, which is refused
@@ -53,7 +53,7 @@ unfolding widthOf repairMade shortMade stepMade readStep stepsFrom startOf count
 twice-steps = refl
 
 twice-runs : (runOf twice 4 .answer ≡ 0) × (bufferOf twice (9 ∷ 9 ∷ 9 ∷ 9 ∷ []) ≡ 0 ∷ 0 ∷ 7 ∷ 9 ∷ [])
-unfolding allFrom table times allBelow legalActor legalActors legal freshWith emptyMachine slotsFine setupFine rowsFine linksFine viewFine queueFine messageFine repairFine entryFine recordsFine updatesFine contentsFine sameLinks heldLinksFine viewlinksFine storeFine jobsFine placesFine wholeOf brokenOf causesKnown sendNo sent receiveNo receivedOf timeoutNo timedOut ruleOf stepOf widthOf repairMade shortMade stepMade readStep validFrom stepsFrom startOf countOf wellFormed setupRead ran answers bookNo runOf filled bufferOf
+unfolding allFrom table times allBelow legalActor legalActors legal freshWith emptyMachine slotsFine setupFine rowsFine linksFine viewFine queueFine messageFine repairFine entryFine recordsFine updatesFine contentsFine sameLinks heldLinksFine viewlinksFine notesFine storeFine jobsFine placesFine wholeOf brokenOf causesKnown sendNo sent receiveNo receivedOf timeoutNo timedOut ruleOf stepOf widthOf repairMade shortMade stepMade readStep validFrom stepsFrom startOf countOf wellFormed setupRead ran answers bookNo runOf filled bufferOf
 twice-runs = (refl, refl)
 
 empty-refused : runOf [] 4 .answer ≡ 10

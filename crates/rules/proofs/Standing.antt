@@ -14,9 +14,9 @@ use Rattle.protocol.specs.Slots.{number}
 use Rattle.protocol.specs.Setup.{answered}
 use Rattle.protocol.specs.declared.State.{State}
 use Rattle.protocol.specs.Outcome.{Outcome}
-use Rattle.rules.specs.About.{aboutOf}
+use Rattle.rules.specs.About.{aboutOf, actorAbout, viewAbout, storeAbout}
 use Rattle.protocol.specs.Rule.{decided, outside}
-use Rattle.rules.specs.Slots.{Stands, opposite, slotsOf, withSlots}
+use Rattle.rules.specs.Slots.{Stands, opposite, slotsOf, withSlotsAt, withSent, withSwept, withSlots}
 use Rattle.protocol.specs.Step.{ruleOf, numberOf, afterOf}
 use Rattle.protocol.specs.declared.Step.{Step}
 use Rattle.rules.specs.declared.slots.Slots.{Slots}
@@ -25,18 +25,37 @@ pick-same : {A : Type 0} (b : Bool) (x : A) → pick b x x ≡ x
 pick-same true x = refl
 pick-same false x = refl
 
+-- as the slots stand, nothing is asked of the other places of the store
+beside-places : {m : State} {s : Step} {x : Slots} → Stands m s x → (p : ℕ) (n : State) → withSwept (x .sweeps) m p (withSent (x .sends) m p n) ≡ n
+unfolding withSwept withSent
+beside-places {m} h p n = λ i. withSwept (h .slots i .sweeps) m p (withSent (h .slots i .sends) m p n)
+
 -- what is written back as it stood changes nothing
 pub unchanged : {m : State} {s : Step} {x : Slots} → Stands m s x → withSlots m (aboutOf s) x ≡ m
-unchanged {m} {s} {x} h = ap (withSlots m (aboutOf s)) (h .slots) ∙ simp (set-getD, pick-same)
+unchanged {m} {s} {x} h =
+    let b = aboutOf s in
+    beside-places h (storeAbout m b) (withSlotsAt m b (actorAbout m b) (viewAbout m b) (storeAbout m b) x)
+    ∙ (ap (withSlotsAt m b (actorAbout m b) (viewAbout m b) (storeAbout m b)) (h .slots) ∙ simp (set-getD, pick-same))
 
 pub refuses : {m : State} {s : Step} {x : Slots} (h : Stands m s x) (n : ℕ) → eqb n 0 ≡ false → numberOf m s ≡ n → ruleOf m s ≡ answered n (withSlots m (aboutOf s) x)
 unfolding ruleOf
 refuses {m} {s} {x} h n other e =
     ap (λ (k : ℕ). decided k m (afterOf m s)) e ∙ (ap (λ (b : Bool). pick b (answered 0 (afterOf m s)) (answered n m)) other ∙ sym (ap (answered n) (unchanged h)))
 
-pub grants : {m : State} {s : Step} {x : Slots} → Stands m s x → {after : State} → numberOf m s ≡ 0 → after ≡ afterOf m s → ruleOf m s ≡ answered 0 after
+-- a granted rule gives what it states
+pub grants-all : {m : State} {s : Step} {x : Slots} → Stands m s x → {after : State} → numberOf m s ≡ 0 → after ≡ afterOf m s → ruleOf m s ≡ answered 0 after
 unfolding ruleOf
-grants {m} {s} h e same = ap (λ (k : ℕ). decided k m (afterOf m s)) e ∙ sym (ap (answered 0) same)
+grants-all {m} {s} h e same = ap (λ (k : ℕ). decided k m (afterOf m s)) e ∙ sym (ap (answered 0) same)
+
+-- .. and one that asks nothing of the other places states what its slots give
+pub grants : {m : State} {s : Step} {x : Slots} → Stands m s x → {after : State} → numberOf m s ≡ 0 → after ≡ afterOf m s
+    → ruleOf m s ≡ answered 0 (withSwept (x .sweeps) m (storeAbout m (aboutOf s)) (withSent (x .sends) m (storeAbout m (aboutOf s)) after))
+grants {m} {s} h {after} e same = grants-all h e (beside-places h (storeAbout m (aboutOf s)) after ∙ same)
+
+-- .. and one that asks something of every place of its store states that of what its slots give
+pub everywhere : (m : State) (p : ℕ) (after : State) {n : State} {sends asked : Bool} → sends ≡ asked → n ≡ after
+    → withSwept true m p (withSent sends m p n) ≡ withSwept true m p (withSent asked m p after)
+everywhere m p after e same = λ i. withSwept true m p (withSent (e i) m p (same i))
 
 -- a view's number tells its key and its role
 pub key-of : (k r : ℕ) → r < 2 → number k r / 2 ≡ k

@@ -8,7 +8,7 @@ use Rattle.protocol.specs.declared.State.{State}
 use Rattle.protocol.specs.Rule.{outside, head}
 use Rattle.rules.specs.declared.about.About.{About}
 use Rattle.protocol.specs.declared.Step.{Step}
-use Rattle.protocol.specs.declared.Step.the-variants.{Send, Receive, PreCheck, SendRecord, Timeout, TakeRecord, TakeAck, PostCheck, TakeRepair, SendUpdate, TakeUpdate, TakeUack, Expire, Lose, Crash, Restart}
+use Rattle.protocol.specs.declared.Step.the-variants.{Send, Receive, PreCheck, SendRecord, Timeout, TakeRecord, TakeAck, PostCheck, TakeRepair, SendUpdate, TakeUpdate, TakeUack, Expire, Lose, Crash, Restart, Checkpoint}
 
 -- send and pre-check look back at the receipts of their actor; send makes an interaction too
 abbrev pub lookingBack : ℕ → Bool → ℕ → ℕ → ℕ → About
@@ -30,7 +30,7 @@ abbrev pub ofPlace : ℕ → ℕ → ℕ → ℕ → About
 ofPlace what p k r =
     record { back = false; making = false; acting = false; actor = 0; key = k; role = r; whose = 0; store = p; other = 0; causes = 0; what = what }
 
--- what each kind names; what it doesn't name and needs none of is 0. A crash and a restart need no actor and no view
+-- what each kind names; what it doesn't name and needs none of is 0. A crash, a restart and a checkpoint need no actor and no view
 abbrev pub aboutOf : Step → About
 aboutOf (Send from to own word causes) = lookingBack from true to own causes
 aboutOf (Receive k) = ofView k 1 0
@@ -48,6 +48,7 @@ aboutOf (Expire k r) = ofView k r 0
 aboutOf (Lose what p k r) = ofPlace what p k r
 aboutOf (Crash p) = ofActor 0 0 p
 aboutOf (Restart p) = ofActor 0 0 p
+aboutOf (Checkpoint p) = ofActor 0 0 p
 
 -- the store that is named, the view's current store, or the destination of its entry
 abbrev pub storeOf : ℕ → ℕ → ℕ → ℕ → ℕ
@@ -91,3 +92,4 @@ outsideOf stores actors made (Expire k r) = outside k made || outside r 2
 outsideOf stores actors made (Lose what p k r) = outside what 4 || outside p stores || outside k made || outside r 2
 outsideOf stores actors made (Crash p) = outside p stores
 outsideOf stores actors made (Restart p) = outside p stores
+outsideOf stores actors made (Checkpoint p) = outside p stores

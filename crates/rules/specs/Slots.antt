@@ -1,12 +1,15 @@
 -- What stands in the slots that a step is about, and a machine with those slots written anew.
 use Prim.Native.Nat.{ℕ, _-_, _/_, _%_, _<_}
-use mathlib.Core.Bool.{true, false}
+use mathlib.Core.Bool.{Bool, true, false}
 use mathlib.Core.Path.{_≡_}
 use lib.ListN.{getD, set}
 use Rattle.protocol.specs.Words.{pick, table}
 use Rattle.protocol.specs.Slots.{number, place, linksPlace, home, list, queue, message, view, repair, entry, shelf, recordCopies, ackCopies, updateCopies, uackCopies, contents, noLinks}
 use Rattle.protocol.specs.Views.{blankView}
 use Rattle.protocol.specs.Setup.{answered}
+use Rattle.protocol.specs.Writes.{withAcks, withUacks, withContents, withLinks}
+use Rattle.protocol.specs.Sweep.{swept}
+use Rattle.protocol.specs.Checkpoint.{sentOwed}
 use Rattle.protocol.specs.declared.State.{State}
 use Rattle.protocol.specs.declared.View.{View}
 use Rattle.protocol.specs.Outcome.{Outcome}
@@ -59,6 +62,8 @@ slotsAt m b a v p past =
       uacks = uackCopies m p v;
       contents = contents m p v;
       links = getD (m .links) (linksPlace p (v / 2)) noLinks;
+      sends = false;
+      sweeps = false;
     }
 
 -- the machine with these slots written; the number made is written by a step that makes an interaction alone
@@ -84,12 +89,25 @@ withSlotsAt m b a v p x =
       links = set (m .links) (linksPlace p (v / 2)) (x .links);
     }
 
+-- n with what a rule asks for of every place of the store p, which was in m: one copy for each note that it owed there
+unfoldable pub withSent : Bool → State → ℕ → State → State
+withSent true m p n =
+    withUacks (withAcks n (sentOwed (shelf m p .acksowed) p (n .acks))) (sentOwed (shelf m p .uacksowed) p (n .uacks))
+withSent false m p n = n
+
+-- .. and what stood there swept
+unfoldable pub withSwept : Bool → State → ℕ → State → State
+withSwept true m p n = swept (withLinks (withContents n (m .contents)) (m .links)) p
+withSwept false m p n = n
+
 -- the slots that a step is about
 abbrev pub slotsOf : State → About → Slots
 slotsOf m b = slotsAt m b (actorAbout m b) (viewAbout m b) (storeAbout m b) (pastAbout m b (viewAbout m b))
 
 abbrev pub withSlots : State → About → Slots → State
-withSlots m b x = withSlotsAt m b (actorAbout m b) (viewAbout m b) (storeAbout m b) x
+withSlots m b x =
+    withSwept (x .sweeps) m (storeAbout m b)
+    (withSent (x .sends) m (storeAbout m b) (withSlotsAt m b (actorAbout m b) (viewAbout m b) (storeAbout m b) x))
 
 -- what comes of a step's number and slots
 abbrev pub outcome : State → Step → Tried → Outcome

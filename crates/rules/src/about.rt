@@ -7,7 +7,7 @@ pub struct About {
     // Send makes an interaction, and the view is the sender's of that one.
     pub making: bool,
     // The actor is named, and the view is its queue's head; else the view is named, by key and role, and the actor is the
-    // view's. Crash and restart are about a store alone: any actor and its head will do.
+    // view's. Crash, restart and checkpoint are about a store alone: any actor and its head will do.
     pub acting: bool,
     pub actor: u8,
     pub key: u8,

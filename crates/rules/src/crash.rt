@@ -9,7 +9,7 @@ use crate::slots::Slots;
 use crate::slots::Tried;
 
 impl Slots {
-    // Up becomes down.
+    // Up becomes down. The store is thrown back to its checkpoint and drops its notes.
     pub(crate) fn crash(self) -> Tried
         ensures { λ r. ⌜ ((m : State) (p : ℕ) → Stands m (Crash p) self → ruleOf m (Crash p) ≡ outcome m (Crash p) r) ⌝ }
     {
@@ -17,9 +17,15 @@ impl Slots {
         if !s.up {
             return self.with(5);
         }
+        let links = s.keptlinks;
         s.up = false;
+        s.held = s.kept;
+        s.viewlinks = links;
+        s.acksowed = 0;
+        s.uacksowed = 0;
         let mut x = self;
         x.shelf = s;
+        x.sweeps = true;
         Tried {
             answer: 0,
             slots: x,

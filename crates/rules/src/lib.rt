@@ -1,6 +1,7 @@
-// The sixteen rules of document 01, each on the slots of the one actor, view and store that its step is about.
+// The rules of the seventeen kinds of step, each on the slots of the one actor, view and store that its step is about.
 
 pub mod about;
+mod checkpoint;
 mod crash;
 mod expire;
 mod lose;
@@ -9,7 +10,7 @@ mod post_check;
 mod pre_check;
 mod receive;
 mod restart;
-mod rule;
+pub mod rule;
 mod send;
 mod send_record;
 mod send_update;

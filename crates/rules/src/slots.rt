@@ -44,6 +44,10 @@ pub struct Slots {
     // What the store holds of the view's record.
     pub contents: Contents,
     pub links: Links,
+    // What a rule asks for beside these, of every place of the store: one copy for each note that was owed; contents and cause
+    // links that neither of its states has any more become blank, and of those no slot is written.
+    pub sends: bool,
+    pub sweeps: bool,
 }
 
 // The slots after a step, and its number.
@@ -96,6 +100,7 @@ impl Slots {
             } => self.lose(what),
             Step::Crash { store } => self.crash(),
             Step::Restart { store } => self.restart(),
+            Step::Checkpoint { store } => self.checkpoint(),
         }
     }
 }

@@ -10,6 +10,7 @@ pub mod Whole
 pub mod Counting
 pub mod Room
 pub mod Bits
+pub mod Has
 pub mod Fresh
 pub mod Empty
 pub mod Only

@@ -1,10 +1,11 @@
--- Each writer of a machine and of a view writes its own field and no other. Assumes nothing.
+-- Each writer of a machine, a store and a view writes its own field and no other. Assumes nothing.
 use Prim.Native.Nat.{ℕ}
 use mathlib.Core.Path.{refl}
 use mathlib.Core.Bool.{Bool}
 use mathlib.Core.List.{List}
 use Rattle.protocol.specs.Views.{rewritten, phased, relinked}
-use Rattle.protocol.specs.Writes.{withMade, withQueues, withShelves, withMessages, withViews, withRepairs, withEntries, withRecords, withAcks, withUpdates, withUacks, withContents, withLinks, turned}
+use Rattle.protocol.specs.Writes.{withMade, withQueues, withShelves, withMessages, withViews, withRepairs, withEntries, withRecords, withAcks, withUpdates, withUacks, withContents, withLinks}
+use Rattle.protocol.specs.Stores.{reworked, turned}
 use Rattle.protocol.specs.declared.State.{State}
 use Rattle.protocol.specs.declared.View.{View}
 use Rattle.protocol.specs.declared.Store.{Store}
@@ -50,7 +51,10 @@ contents-writer = record { reads = λ m a. refl; same = λ m. refl; last = λ m 
 pub links-writer : Writer (λ (m : State). m .links) withLinks
 links-writer = record { reads = λ m a. refl; same = λ m. refl; last = λ m a b. refl }
 
--- of a store: up or down
+-- of a store: up or down, the working state and the notes, leaving the checkpointed state; up or down alone
+pub working-writer : Writer {A = (Bool × ℕ) × ((ℕ × ℕ) × List ℕ)} (λ (s : Store). ((s .up, s .held), ((s .acksowed, s .uacksowed), s .viewlinks))) (λ s a. reworked (a .0 .0) (a .0 .1) (a .1 .0 .0) (a .1 .0 .1) (a .1 .1) s)
+working-writer = record { reads = λ s a. refl; same = λ s. refl; last = λ s a b. refl }
+
 pub up-writer : Writer (λ (s : Store). s .up) turned
 up-writer = record { reads = λ s a. refl; same = λ s. refl; last = λ s a b. refl }
 

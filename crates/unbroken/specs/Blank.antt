@@ -4,16 +4,17 @@ use mathlib.Core.Path.{_≡_}
 use mathlib.Core.Bool.{false}
 use lib.Dec.{ltb}
 use lib.ListN.{replicate}
-use Rattle.protocol.specs.Slots.{noMessage, noRepair, noEntry, noContents, isUp, queue, message, view, repair, entry}
-use Rattle.protocol.specs.Slots.{recordCopies, ackCopies, updateCopies, uackCopies, contents, causeLinks, viewlink}
+use Rattle.protocol.specs.Slots.{noMessage, noRepair, noEntry, noContents, shelf, queue, message, view, repair, entry}
+use Rattle.protocol.specs.Slots.{recordCopies, ackCopies, updateCopies, uackCopies, contents, causeLinks}
 use Rattle.protocol.specs.Views.{blankView}
+use Rattle.protocol.specs.Stores.{freshStore}
 use Rattle.protocol.specs.Setup.{blankQueue, emptyMachine}
 use Rattle.protocol.specs.Broken.{brokenOf}
 use Rattle.protocol.specs.declared.State.{State}
 
 pub record Blank (m : State) : Type 0 where
   pub made : m .made ≡ 0
-  pub up : (p : ℕ) → p < 8 → isUp m p ≡ ltb p (m .stores)
+  pub shelves : (p : ℕ) → p < 8 → shelf m p ≡ freshStore (ltb p (m .stores))
   pub queues : (a : ℕ) → a < 8 → queue m a ≡ blankQueue
   pub messages : (k : ℕ) → k < 16 → message m k ≡ noMessage
   pub views : (v : ℕ) → v < 32 → view m v ≡ blankView
@@ -25,7 +26,6 @@ pub record Blank (m : State) : Type 0 where
   pub uacks : (p v : ℕ) → p < 8 → v < 32 → uackCopies m p v ≡ 0
   pub held : (p v : ℕ) → p < 8 → v < 32 → contents m p v ≡ noContents
   pub links : (p k : ℕ) → p < 8 → k < 16 → causeLinks m p k ≡ replicate 16 0
-  pub viewlinks : (p v : ℕ) → p < 8 → v < 32 → viewlink m p v ≡ 0
 
 -- a machine that isn't broken and has no stores, actors or interactions is the empty machine
 abbrev pub OneEmpty : Type 0

@@ -7,7 +7,8 @@ use mathlib.Core.List.{List}
 use lib.ListN.{length, getD}
 use Rattle.protocol.specs.Words.{bit, times}
 use Rattle.protocol.specs.Slots.{number, noView, noMessage, noRepair, noEntry, noContents, statusNumber, home, list, shelf, queue, standing, message, view, repair, entry}
-use Rattle.protocol.specs.Slots.{recordCopies, ackCopies, updateCopies, uackCopies, contents, causeLinks}
+use Rattle.protocol.specs.Slots.{recordCopies, ackCopies, updateCopies, uackCopies, contents, causeLinks, owesAck, owesUack}
+use Rattle.protocol.specs.Sweep.{hasContents}
 use Rattle.protocol.specs.Views.{unsetView, relinked}
 use Rattle.protocol.specs.Setup.{storesIn}
 use Rattle.protocol.specs.declared.State.{State}
@@ -133,23 +134,23 @@ pub record CopySlot (stores p least at n : ℕ) : Type 0 where
   pub atStore : 1 ≤ n → p < stores
   pub atView : 1 ≤ n → least ≤ at
 
--- what the store p holds for a view with the record w
-pub record ContentsSlot (stores p : ℕ) (w : View) (c : Contents) : Type 0 where
+-- what the store p has of a view with the record w, where one of its states has contents of it
+pub record ContentsSlot (stores p : ℕ) (has : Bool) (w : View) (c : Contents) : Type 0 where
   -- a view in phase 0 or 1 has contents in a store
-  pub ready : c .held ≡ true → 2 ≤ w .phase
+  pub ready : has ≡ true → 2 ≤ w .phase
   -- contents in a store differ from the view's record
-  pub sameActor : c .held ≡ true → c .asserter ≡ w .actor
-  pub sameCauses : c .held ≡ true → c .causes ≡ w .causes
-  pub sameWord : c .held ≡ true → c .word ≡ w .word
+  pub sameActor : has ≡ true → c .asserter ≡ w .actor
+  pub sameCauses : has ≡ true → c .causes ≡ w .causes
+  pub sameWord : has ≡ true → c .word ≡ w .word
   -- an unused slot isn't blank: behind the last store, and where no contents are
-  pub atStore : c .held ≡ true → p < stores
-  pub blank : c .held ≡ false → c ≡ noContents
+  pub atStore : has ≡ true → p < stores
+  pub blank : has ≡ false → c ≡ noContents
 
 -- .. and the cause links beside a sender's contents
-pub record LinksSlot (held : Bool) (links to : List ℕ) : Type 0 where
+pub record LinksSlot (has : Bool) (links to : List ℕ) : Type 0 where
   pub long : length to ≡ 16
-  pub sameLinks : (j : ℕ) → j < 16 → held ≡ true → getD to j 0 ≡ getD links j 0
-  pub linksBlank : (j : ℕ) → j < 16 → held ≡ false → getD to j 0 ≡ 0
+  pub sameLinks : (j : ℕ) → j < 16 → has ≡ true → getD to j 0 ≡ getD links j 0
+  pub linksBlank : (j : ℕ) → j < 16 → has ≡ false → getD to j 0 ≡ 0
 
 -- a viewlink, 0 for none, names no store; an unused slot isn't blank: behind the last store, the last interaction
 pub record ViewlinkSlot (stores made p v l : ℕ) : Type 0 where
@@ -157,11 +158,20 @@ pub record ViewlinkSlot (stores made p v l : ℕ) : Type 0 where
   pub atStore : 1 ≤ l → p < stores
   pub atView : 1 ≤ l → v < made * 2
 
--- the store p: down where it isn't there; its viewlinks, by view
+-- the viewlinks of the store p in one of its states, by view
+pub record RowSlot (stores made p : ℕ) (row : List ℕ) : Type 0 where
+  pub long : length row ≡ 32
+  pub linkAt : (v : ℕ) → v < 32 → ViewlinkSlot stores made p v (getD row v 0)
+
+-- the store p: blank where it isn't there; its viewlinks, working and checkpointed
 pub record StoreSlot (stores made p : ℕ) (s : Store) : Type 0 where
   pub upBlank : stores ≤ p → s .up ≡ false
-  pub long : length (s .viewlinks) ≡ 32
-  pub linkAt : (v : ℕ) → v < 32 → ViewlinkSlot stores made p v (getD (s .viewlinks) v 0)
+  pub heldBlank : stores ≤ p → s .held ≡ 0
+  pub keptBlank : stores ≤ p → s .kept ≡ 0
+  pub acksBlank : stores ≤ p → s .acksowed ≡ 0
+  pub uacksBlank : stores ≤ p → s .uacksowed ≡ 0
+  pub working : RowSlot stores made p (s .viewlinks)
+  pub checkpointed : RowSlot stores made p (s .keptlinks)
 
 pub record Unbroken (m : State) : Type 0 where
   pub sized : Sized m
@@ -181,6 +191,9 @@ pub record Unbroken (m : State) : Type 0 where
   pub ackAt : (p v : ℕ) → p < 8 → v < 32 → CopySlot (m .stores) p 2 (view m v .phase) (ackCopies m p v)
   pub updateAt : (p v : ℕ) → p < 8 → v < 32 → CopySlot (m .stores) p 1 (statusNumber (entry m v .status)) (updateCopies m p v)
   pub uackAt : (p v : ℕ) → p < 8 → v < 32 → CopySlot (m .stores) p 1 (statusNumber (entry m v .status)) (uackCopies m p v)
-  pub contentsAt : (p v : ℕ) → p < 8 → v < 32 → ContentsSlot (m .stores) p (view m v) (contents m p v)
-  pub linksAt : (p k : ℕ) → p < 8 → k < 16 → LinksSlot (contents m p (number k 0) .held) (view m (number k 0) .links) (causeLinks m p k)
+  pub contentsAt : (p v : ℕ) → p < 8 → v < 32 → ContentsSlot (m .stores) p (hasContents m p v) (view m v) (contents m p v)
+  pub linksAt : (p k : ℕ) → p < 8 → k < 16 → LinksSlot (hasContents m p (number k 0)) (view m (number k 0) .links) (causeLinks m p k)
   pub storeAt : (p : ℕ) → p < 8 → StoreSlot (m .stores) (m .made) p (shelf m p)
+  -- an owed note counts as the copy it stands for: a view in phase 0 or 1 has an ack owed; a view with no entry has a uack owed
+  pub ackOwed : (p v : ℕ) → p < 8 → v < 32 → owesAck m p v ≡ true → 2 ≤ view m v .phase
+  pub uackOwed : (p v : ℕ) → p < 8 → v < 32 → owesUack m p v ≡ true → 1 ≤ statusNumber (entry m v .status)

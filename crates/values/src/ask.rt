@@ -64,7 +64,7 @@ fn entry(e: Entry) {
     print::small(e.own);
 }
 
-// f store key role: records, acks, updates, uacks, and the viewlink.
+// f store key role: records, acks, updates, uacks, and the working viewlink.
 fn place(m: State, at: usize)
     requires { ⌜ at < 256 ⌝ }
 {
@@ -76,12 +76,36 @@ fn place(m: State, at: usize)
     print::small(s.viewlinks[at % 32]);
 }
 
+fn has(set: u32, v: usize) -> bool
+    requires { ⌜ v < 32 ⌝ }
+{
+    (set >> v) % 2 == 1
+}
+
+// s store key role: held, kept, ackowed, uackowed, keptlink, then asserter, data and causes.
+fn stored(m: State, at: usize)
+    requires { ⌜ at < 256 ⌝ }
+{
+    let s = m.shelves[at / 32];
+    let v = at % 32;
+    print::flag(has(s.held, v));
+    print::flag(has(s.kept, v));
+    print::flag(has(s.acksowed, v));
+    print::flag(has(s.uacksowed, v));
+    print::small(s.keptlinks[v]);
+    let c = m.contents[at];
+    print::small(c.asserter);
+    print::wide(c.word as u64);
+    print::wide(c.causes as u64);
+}
+
 fn looked(m: State, n: [u8; 64], letter: u8) {
     let v = view_at(n[1], n[2]);
     match letter {
         b'v' => view(m.views[v]),
         b'e' => entry(m.entries[v]),
         b'f' => place(m, place_at(n[1], n[2], n[3])),
+        b's' => stored(m, place_at(n[1], n[2], n[3])),
         _ => {}
     }
 }

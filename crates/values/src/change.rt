@@ -157,16 +157,44 @@ fn entry(mut m: State, n: [u8; 64]) -> State {
     m
 }
 
-// S store key role held asserter data causes.
+// A set of views with the view v in it, or without.
+fn with_view(set: u32, v: usize, member: bool) -> u32
+    requires { ⌜ v < 32 ⌝ }
+{
+    let only: u32 = 1 << v;
+    if member {
+        return set | only;
+    }
+    (set | only) ^ only
+}
+
+// S store key role held asserter data causes kept.
 fn contents(mut m: State, n: [u8; 64]) -> State {
     let at = place_at(n[1], n[2], n[3]);
+    let p = at / 32;
+    let v = at % 32;
     let c = Contents {
-        held: n[4] == 1,
         asserter: n[5],
         causes: n[7] as u16,
         word: n[6] as u32,
     };
     m.contents[at] = c;
+    let mut s = m.shelves[p];
+    s.held = with_view(s.held, v, n[4] == 1);
+    s.kept = with_view(s.kept, v, n[8] == 1);
+    m.shelves[p] = s;
+    m
+}
+
+// N store key role ackowed uackowed.
+fn notes(mut m: State, n: [u8; 64]) -> State {
+    let at = place_at(n[1], n[2], n[3]);
+    let p = at / 32;
+    let v = at % 32;
+    let mut s = m.shelves[p];
+    s.acksowed = with_view(s.acksowed, v, n[4] == 1);
+    s.uacksowed = with_view(s.uacksowed, v, n[5] == 1);
+    m.shelves[p] = s;
     m
 }
 
@@ -179,13 +207,14 @@ fn cause_link(mut m: State, n: [u8; 64]) -> State {
     m
 }
 
-// L store key role link: 0 for none and p + 1 for store p.
-fn viewlink(mut m: State, n: [u8; 64]) -> State {
+// L store key role viewlink keptlink: 0 for none and p + 1 for store p.
+fn viewlinks(mut m: State, n: [u8; 64]) -> State {
     let at = place_at(n[1], n[2], n[3]);
     let p = at / 32;
     let v = at % 32;
     let mut s = m.shelves[p];
     s.viewlinks[v] = n[4];
+    s.keptlinks[v] = n[5];
     m.shelves[p] = s;
     m
 }
@@ -231,7 +260,8 @@ pub(crate) fn changed(m: State, row: Row) -> State {
         b'E' => entry(m, n),
         b'S' => contents(m, n),
         b'C' => cause_link(m, n),
-        b'L' => viewlink(m, n),
+        b'L' => viewlinks(m, n),
+        b'N' => notes(m, n),
         b'F' => copies(m, n),
         b'T' => stepped(m, n),
         b'D' => drained(m),

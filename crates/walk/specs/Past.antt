@@ -5,7 +5,7 @@ use mathlib.Core.Bool.{Bool, false, _&&_, not}
 use mathlib.Core.List.{List}
 use lib.Dec.{leb, eqb}
 use lib.ListN.{length, getD}
-use Rattle.protocol.specs.Words.{pick}
+use Rattle.protocol.specs.Words.{pick, bit}
 use Rattle.protocol.specs.Slots.{number, place, linksPlace, noView, noRepair, noEntry, noContents, noLinks, noStore, statusNumber}
 use Rattle.protocol.specs.Closed.{closedOf}
 use Rattle.protocol.specs.declared.State.{State}
@@ -15,6 +15,7 @@ use Rattle.protocol.specs.declared.Entry.{Entry}
 use Rattle.protocol.specs.declared.Contents.{Contents}
 use Rattle.protocol.specs.declared.Links.{Links}
 use Rattle.protocol.specs.declared.Store.{Store}
+use Rattle.unbroken.specs.Unbroken.{Unbroken}
 
 -- a view that rests: in phase 5, no repair in flight, no entry to-send or waiting
 abbrev pub restsIn : View → Repair → Entry → Bool
@@ -28,16 +29,17 @@ closedIn views repairs entries k =
     restsIn (getD views (number k 0) noView) (getD repairs (number k 0) noRepair) (getD entries (number k 0) noEntry)
     && restsIn (getD views (number k 1) noView) (getD repairs (number k 1) noRepair) (getD entries (number k 1) noEntry)
 
--- by place, whether contents are held, and their causes
-abbrev pub heldIn : List Contents → ℕ → Bool
-heldIn contents i = getD contents i noContents .held
+-- by store, the views that its checkpoint has contents of
+abbrev pub keptIn : List Store → ℕ → ℕ
+keptIn shelves p = getD shelves p noStore .kept
 
+-- by place, the causes of contents
 abbrev pub causesIn : List Contents → ℕ → ℕ
 causesIn contents i = getD contents i noContents .causes
 
--- by place, the viewlink
+-- by place, the checkpointed viewlink
 abbrev pub viewlinkIn : List Store → ℕ → ℕ
-viewlinkIn shelves i = getD (getD shelves (i / 32) noStore .viewlinks) (i % 32) 0
+viewlinkIn shelves i = getD (getD shelves (i / 32) noStore .keptlinks) (i % 32) 0
 
 -- the first n of the sixteen cause links of a sender are laid from `at`; what stands before stays
 pub record Laid (n at : ℕ) (links before after : List ℕ) : Type 0 where
@@ -53,22 +55,22 @@ pub record LaidOut (n : ℕ) (links : List Links) (out : List ℕ) : Type 0 wher
   pub laid : (i j : ℕ) → i < n → j < 16 → getD out (i * 16 + j) 0 ≡ getD (getD links i noLinks .to) j 0
 
 -- the arrays are those of the machine
-pub record Past (m : State) (closed held : List Bool) (causes links viewlinks : List ℕ) : Type 0 where
-  pub long : length (m .contents) ≡ 256
+pub record Past (m : State) (closed : List Bool) (kept causes links viewlinks : List ℕ) : Type 0 where
+  pub whole : Unbroken m
   pub closedAt : (k : ℕ) → k < 16 → getD closed k false ≡ closedOf m k
-  pub heldAt : (i : ℕ) → i < 256 → getD held i false ≡ heldIn (m .contents) i
+  pub keptAt : (p : ℕ) → p < 8 → getD kept p 0 ≡ keptIn (m .shelves) p
   pub causesAt : (i : ℕ) → i < 256 → getD causes i 0 ≡ causesIn (m .contents) i
   pub linksAt : LaidOut 128 (m .links) links
   pub viewlinksAt : (i : ℕ) → i < 256 → getD viewlinks i 0 ≡ viewlinkIn (m .shelves) i
 
 -- as `foundOf`, `receiptOf` and `hopOf`, in these arrays; no store is behind the eighth
-abbrev pub foundIn : List Bool → List Bool → ℕ → ℕ → Bool
-foundIn closed held k link =
-    pick (leb link 8) (not (eqb link 0) && getD held (place (link - 1) (number k 0)) false && getD closed k false) false
+abbrev pub foundIn : List Bool → List ℕ → ℕ → ℕ → Bool
+foundIn closed kept k link =
+    pick (leb link 8) (not (eqb link 0) && bit (getD kept (link - 1) 0) (number k 0) && getD closed k false) false
 
-abbrev pub receiptIn : List Bool → List ℕ → ℕ → ℕ → ℕ
-receiptIn held viewlinks p j =
-    pick (leb 8 p) 0 (pick (getD held (place p (number j 1)) false) (getD viewlinks (place p (number j 1)) 0) 0)
+abbrev pub receiptIn : List ℕ → List ℕ → ℕ → ℕ → ℕ
+receiptIn kept viewlinks p j =
+    pick (leb 8 p) 0 (pick (bit (getD kept p 0) (number j 1)) (getD viewlinks (place p (number j 1)) 0) 0)
 
-abbrev pub hopIn : List Bool → List ℕ → List ℕ → ℕ → ℕ → ℕ → ℕ
-hopIn held links viewlinks k link j = receiptIn held viewlinks (getD links (linksPlace (link - 1) k * 16 + j) 0) j
+abbrev pub hopIn : List ℕ → List ℕ → List ℕ → ℕ → ℕ → ℕ → ℕ
+hopIn kept links viewlinks k link j = receiptIn kept viewlinks (getD links (linksPlace (link - 1) k * 16 + j) 0) j

@@ -1,4 +1,4 @@
-// The walk back over what the stores hold: visiting a sender record calls the loop over its causes,
+// The walk back over what the stores' checkpoints hold: visiting a sender record calls the loop over its causes,
 // which calls the visit of each cause's record. The key falls.
 ghost use mathlib.Core.Path.{_≡_};
 ghost use mathlib.Core.Bool.{true, false, not, _&&_};
@@ -7,7 +7,7 @@ ghost use Prim.Native.Nat.{ℕ, _+_, _*_, _<_, _≤_};
 ghost use Rattle.protocol.specs.Words.{bit, table};
 ghost use Rattle.protocol.specs.Broken.{brokenOf};
 ghost use Rattle.protocol.specs.Walk.{added, spoiled, lookedUp, causesHeld, hopOf, each, toCause, visitOf, refusedWalk, answerOf, walkOf};
-ghost use Rattle.walk.specs.Past.{restsIn, closedIn, heldIn, causesIn, viewlinkIn, Laid, LaidOut, Past, foundIn, receiptIn, hopIn};
+ghost use Rattle.walk.specs.Past.{restsIn, closedIn, keptIn, causesIn, viewlinkIn, Laid, LaidOut, Past, foundIn, receiptIn, hopIn};
 ghost use Rattle.reaches.specs.Tally.{Tally, Looked};
 use broken::is_broken;
 use protocol::Contents;
@@ -144,21 +144,21 @@ fn all_closed(views: [View; 32], repairs: [Repair; 32], entries: [Entry; 32]) ->
     closed
 }
 
-// The places where contents are held.
-fn all_held(contents: [Contents; 256]) -> [bool; 256]
-    ensures { λ r. ⌜ r ≡ table (heldIn contents) 256 ⌝ }
+// The views that each store's checkpoint has contents of.
+fn all_kept(shelves: [Store; 8]) -> [u32; 8]
+    ensures { λ r. ⌜ r ≡ table (keptIn shelves) 8 ⌝ }
 {
-    let mut held = [false; 256];
-    let mut i: usize = 0;
-    while i < 256 {
-        let c = contents[i];
-        held[i] = c.held;
-        i += 1;
+    let mut kept = [0u32; 8];
+    let mut p: usize = 0;
+    while p < 8 {
+        let s = shelves[p];
+        kept[p] = s.kept;
+        p += 1;
     }
-    held
+    kept
 }
 
-// The causes of what is held, by place.
+// The causes of contents, by place.
 fn all_causes(contents: [Contents; 256]) -> [u16; 256]
     ensures { λ r. ⌜ r ≡ table (causesIn contents) 256 ⌝ }
 {
@@ -172,7 +172,7 @@ fn all_causes(contents: [Contents; 256]) -> [u16; 256]
     causes
 }
 
-// The viewlinks, by place.
+// The checkpointed viewlinks, by place.
 fn all_viewlinks(shelves: [Store; 8]) -> [u8; 256]
     ensures { λ r. ⌜ r ≡ table (viewlinkIn shelves) 256 ⌝ }
 {
@@ -180,7 +180,7 @@ fn all_viewlinks(shelves: [Store; 8]) -> [u8; 256]
     let mut i: usize = 0;
     while i < 256 {
         let s = shelves[i / 32];
-        out[i] = s.viewlinks[i % 32];
+        out[i] = s.keptlinks[i % 32];
         i += 1;
     }
     out
@@ -211,10 +211,18 @@ fn all_links(links: [Links; 128]) -> [u8; 2048]
     out
 }
 
-// Whether key k is closed and the store of the link holds its sender record. No store is behind the eighth.
-fn found<'a>(closed: &'a [bool; 16], held: &'a [bool; 256], k: usize, link: usize) -> bool
+// Whether the checkpoint of store p has contents of view v.
+fn is_kept<'a>(kept: &'a [u32; 8], p: usize, v: usize) -> bool
+    requires { ⌜ (p < 8) × (v < 32) ⌝ }
+    ensures { λ r. ⌜ r ≡ bit (getD (now (kept .entry)) p 0) v ⌝ }
+{
+    (kept[p] >> v) % 2 == 1
+}
+
+// Whether key k is closed and the checkpoint of the link's store has its sender record. No store is behind the eighth.
+fn found<'a>(closed: &'a [bool; 16], kept: &'a [u32; 8], k: usize, link: usize) -> bool
     requires { ⌜ k < 16 ⌝ }
-    ensures same { λ r. ⌜ r ≡ foundIn (now (closed .entry)) (now (held .entry)) k link ⌝ }
+    ensures same { λ r. ⌜ r ≡ foundIn (now (closed .entry)) (now (kept .entry)) k link ⌝ }
     ensures bounded { λ r. ⌜ (r ≡ true → (1 ≤ link) × (link ≤ 8)) ⌝ }
 {
     if link == 0 {
@@ -223,7 +231,7 @@ fn found<'a>(closed: &'a [bool; 16], held: &'a [bool; 256], k: usize, link: usiz
     if 8 < link {
         return false;
     }
-    if held[(link - 1) * 32 + k * 2] {
+    if is_kept(kept, link - 1, k * 2) {
         return closed[k];
     }
     false
@@ -231,7 +239,7 @@ fn found<'a>(closed: &'a [bool; 16], held: &'a [bool; 256], k: usize, link: usiz
 
 // By the cause link to the receipt.
 fn hop<'a>(
-    held: &'a [bool; 256],
+    kept: &'a [u32; 8],
     links: &'a [u8; 2048],
     viewlinks: &'a [u8; 256],
     k: usize,
@@ -239,10 +247,10 @@ fn hop<'a>(
     j: usize,
 ) -> usize
     requires { ⌜ (k < 16) × (j < 16) × (1 ≤ link) × (link ≤ 8) ⌝ }
-    ensures { λ r. ⌜ r ≡ hopIn (now (held .entry)) (now (links .entry)) (now (viewlinks .entry)) k link j ⌝ }
+    ensures { λ r. ⌜ r ≡ hopIn (now (kept .entry)) (now (links .entry)) (now (viewlinks .entry)) k link j ⌝ }
 {
     receipt(
-        held,
+        kept,
         viewlinks,
         wide(links[((link - 1) * 16 + k) * 16 + j]),
         j,
@@ -250,14 +258,14 @@ fn hop<'a>(
 }
 
 // By the receipt's viewlink to the opposite sender record.
-fn receipt<'a>(held: &'a [bool; 256], viewlinks: &'a [u8; 256], p: usize, j: usize) -> usize
+fn receipt<'a>(kept: &'a [u32; 8], viewlinks: &'a [u8; 256], p: usize, j: usize) -> usize
     requires { ⌜ j < 16 ⌝ }
-    ensures { λ r. ⌜ r ≡ receiptIn (now (held .entry)) (now (viewlinks .entry)) p j ⌝ }
+    ensures { λ r. ⌜ r ≡ receiptIn (now (kept .entry)) (now (viewlinks .entry)) p j ⌝ }
 {
     if 8 <= p {
         return 0;
     }
-    if held[p * 32 + (j * 2 + 1)] {
+    if is_kept(kept, p, j * 2 + 1) {
         return wide(viewlinks[p * 32 + (j * 2 + 1)]);
     }
     0
@@ -281,7 +289,7 @@ fn is_due(set: u16, j: usize, fine: bool, met: bool) -> bool
 fn visit<'a>(
     w: Met,
     closed: &'a [bool; 16],
-    held: &'a [bool; 256],
+    kept: &'a [u32; 8],
     sets: &'a [u16; 256],
     links: &'a [u8; 2048],
     viewlinks: &'a [u8; 256],
@@ -290,13 +298,13 @@ fn visit<'a>(
 ) -> Met
     requires { ⌜ (k < 16) × Tally w × (getD (w .met) k false ≡ false) × (w .lookups ≡ 2 * w .count) ⌝ }
     ensures tally { λ r. ⌜ Tally r × Looked r ⌝ }
-    ensures same { λ r. ⌜ ((m : State) → Past m (now (closed .entry)) (now (held .entry)) (now (sets .entry)) (now (links .entry)) (now (viewlinks .entry)) → (depth : ℕ) → k < depth → r ≡ visitOf depth m k link w) ⌝ }
+    ensures same { λ r. ⌜ ((m : State) → Past m (now (closed .entry)) (now (kept .entry)) (now (sets .entry)) (now (links .entry)) (now (viewlinks .entry)) → (depth : ℕ) → k < depth → r ≡ visitOf depth m k link w) ⌝ }
 {
-    if found(closed, held, k, link) {
+    if found(closed, kept, k, link) {
         return causes(
             add(look_up(w), k),
             closed,
-            held,
+            kept,
             sets,
             links,
             viewlinks,
@@ -311,7 +319,7 @@ fn visit<'a>(
 fn causes<'a>(
     w: Met,
     closed: &'a [bool; 16],
-    held: &'a [bool; 256],
+    kept: &'a [u32; 8],
     sets: &'a [u16; 256],
     links: &'a [u8; 2048],
     viewlinks: &'a [u8; 256],
@@ -320,15 +328,15 @@ fn causes<'a>(
 ) -> Met
     requires { ⌜ (k < 16) × (1 ≤ link) × (link ≤ 8) × Tally w × Looked w ⌝ }
     ensures tally { λ r. ⌜ Tally r × Looked r ⌝ }
-    ensures same { λ r. ⌜ ((m : State) → Past m (now (closed .entry)) (now (held .entry)) (now (sets .entry)) (now (links .entry)) (now (viewlinks .entry)) → (depth : ℕ) → k ≤ depth → r ≡ each (toCause (visitOf depth m) m k link) (causesHeld m k link) k 0 w) ⌝ }
+    ensures same { λ r. ⌜ ((m : State) → Past m (now (closed .entry)) (now (kept .entry)) (now (sets .entry)) (now (links .entry)) (now (viewlinks .entry)) → (depth : ℕ) → k ≤ depth → r ≡ each (toCause (visitOf depth m) m k link) (causesHeld m k link) k 0 w) ⌝ }
 {
     let set = sets[(link - 1) * 32 + k * 2];
     let mut out = w;
     let mut j = 0;
     while j < k {
         if is_due(set, j, out.fine, out.met[j]) {
-            let next = hop(held, links, viewlinks, k, link, j);
-            out = visit(look_up(out), closed, held, sets, links, viewlinks, j, next);
+            let next = hop(kept, links, viewlinks, k, link, j);
+            out = visit(look_up(out), closed, kept, sets, links, viewlinks, j, next);
             j += 1;
         } else {
             j += 1;
@@ -361,14 +369,14 @@ fn walk_unbroken(m: State, key: u8) -> Walked
     let links = m.links;
     let shelves = m.shelves;
     let closed = all_closed(views, repairs, entries);
-    let held = all_held(contents);
+    let kept = all_kept(shelves);
     let sets = all_causes(contents);
     let laid = all_links(links);
     let viewlinks = all_viewlinks(shelves);
     let walked = visit(
         unmet,
         &closed,
-        &held,
+        &kept,
         &sets,
         &laid,
         &viewlinks,

@@ -3,7 +3,9 @@
 use super::enabled::enabled;
 use super::pairs::any_word;
 use crate::book::{Book, MAX_STEPS};
-use crate::machine::{members, ActorSetup, Machine, MAX_ACTORS, MAX_INTERACTIONS, MAX_STORES};
+use crate::machine::{
+    members, ActorSetup, Machine, Place, MAX_ACTORS, MAX_INTERACTIONS, MAX_STORES,
+};
 use crate::random::Random;
 use crate::step::{Step, KINDS};
 
@@ -16,10 +18,12 @@ pub struct Draft {
     data: fn(&mut Random) -> u32,
 }
 
-/// How often each kind is picked, and how many interactions are made at most.
+/// How often each kind is picked, how many interactions are made at most, and how many of four
+/// steps go towards the end.
 struct Temper {
     weights: [usize; KINDS as usize],
     interactions: usize,
+    diligence: usize,
 }
 
 impl Draft {
@@ -58,16 +62,23 @@ impl Draft {
     /// A run of legal steps; now and then one of the longest that a book can hold.
     pub fn run_of_random_length(&mut self) {
         let longest = self.random.one_in(100);
-        let steps = if longest { MAX_STEPS } else { self.random.between(10, 160) };
+        let steps = if longest { MAX_STEPS } else { self.random.between(20, 240) };
         self.run(steps);
     }
 
     /// Adds so many legal steps, picked as the temper has it.
     pub fn run(&mut self, steps: usize) {
         for _ in 0..steps {
-            let step = self.legal_step();
+            let step = self.next_of_drain().unwrap_or_else(|| self.legal_step());
             self.add_if_taken(step);
         }
+    }
+
+    /// Now and then the step that a drain would take, so that much gets closed.
+    fn next_of_drain(&mut self) -> Option<Step> {
+        let is_taken = |step: &Step| self.machine.clone().take(*step).is_ok();
+        let diligent = self.random.below(4) < self.temper.diligence;
+        diligent.then(|| self.machine.next_of_drain().filter(is_taken)).flatten()
     }
 
     /// Restarts every store and adds the drain's steps, so that nothing stays open.
@@ -97,12 +108,22 @@ impl Draft {
                     None
                 }
                 1 => Some(self.legal_send()),
+                17 => self.legal_checkpoint(),
                 _ => self.random.pick(&enabled(&self.machine, kind)),
             };
             if let Some(step) = step {
                 return step;
             }
         }
+    }
+
+    /// A checkpoint, mostly of a store that owes something, so that acks flow.
+    fn legal_checkpoint(&mut self) -> Option<Step> {
+        let owing = |store: &u8| self.machine.stores[usize::from(*store)].places().any(Place::owes);
+        let up = (0..self.machine.store_count).filter(|&store| self.machine.is_up(store));
+        let idle_too = self.random.one_in(16);
+        let stores: Vec<u8> = up.filter(|store| idle_too || owing(store)).collect();
+        self.random.pick(&stores).map(|store| Step::Checkpoint { store })
     }
 
     fn legal_send(&mut self) -> Step {
@@ -163,14 +184,16 @@ fn actor_setup(random: &mut Random, stores: usize) -> ActorSetup {
 
 impl Temper {
     fn new(random: &mut Random) -> Temper {
-        let mut weights = [6, 6, 8, 8, 0, 9, 9, 9, 6, 8, 8, 8, 0, 0, 0, 4];
+        let mut weights = [6, 6, 8, 8, 0, 9, 9, 9, 6, 8, 8, 8, 0, 0, 0, 4, 0];
         let often = |kind: usize| kind - 1;
         weights[often(5)] = [1, 3, 9][random.below(3)];
         weights[often(13)] = [1, 4][random.below(2)];
         weights[often(14)] = [0, 2, 6][random.below(3)];
         // Never zero: with every store up, a crash may be the only legal step left.
         weights[often(15)] = [1, 1, 3][random.below(3)];
-        Temper { weights, interactions: random.between(1, MAX_INTERACTIONS) }
+        weights[often(17)] = [4, 9, 18][random.below(3)];
+        let interactions = random.between(1, MAX_INTERACTIONS);
+        Temper { weights, interactions, diligence: random.below(4) }
     }
 
     fn kind(&self, random: &mut Random) -> u8 {

@@ -34,6 +34,7 @@ pub fn enabled(machine: &Machine, kind: u8) -> Vec<Step> {
         14 => losses(machine),
         15 => stores(machine, true).map(|store| Step::Crash { store }).collect(),
         16 => stores(machine, false).map(|store| Step::Restart { store }).collect(),
+        17 => stores(machine, true).map(|store| Step::Checkpoint { store }).collect(),
         _ => Vec::new(),
     }
 }

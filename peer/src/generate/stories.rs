@@ -32,6 +32,7 @@ impl Draft {
                 if what == What::Ack {
                     let current = self.machine.record(view).store;
                     self.add_if_taken(Step::TakeRecord { store: current, view });
+                    self.add_if_taken(Step::Checkpoint { store: current });
                 }
                 self.add_if_taken(Step::Timeout { actor, store });
             }
@@ -45,13 +46,14 @@ impl Draft {
             self.add_if_taken(Step::SendUpdate { view });
             if what == What::Uack {
                 self.take_update(view);
+                self.checkpoint_destination(view);
             }
             self.add_if_taken(Step::CoordinatorTimeout { view });
         }
     }
 
     /// Both views move, so that both repairs go off, in either order; and the uack of the
-    /// first update comes when its destination has been replaced.
+    /// first update comes when its destination has been replaced, or is owed until then.
     pub fn both_repairs(&mut self) {
         self.interlude();
         let first = self.fresh_view();
@@ -66,12 +68,17 @@ impl Draft {
         self.add_if_taken(Step::SendUpdate { view: first });
         let replaced = self.machine.side(first).entry.map(|entry| entry.destination);
         self.take_update(first);
+        let checkpoint_now = self.random.one_in(2);
+        if checkpoint_now {
+            self.checkpoint_destination(first);
+        }
         self.interlude();
         self.settle(second, Moved::Yes);
         self.add_if_taken(Step::TakeRepair { view: second });
         self.interlude();
         self.add_if_taken(Step::SendUpdate { view: first });
         if let Some(store) = replaced {
+            self.add_if_taken(Step::Checkpoint { store });
             self.add_if_taken(Step::TakeUack { store, view: first });
         }
         let steps = self.random.between(0, 40);
@@ -90,6 +97,39 @@ impl Draft {
         self.settle(mover.opposite(), Moved::No);
         let steps = self.random.between(0, 40);
         self.run(steps);
+    }
+
+    /// A store takes a record, or an update, and crashes before its checkpoint, so that it comes
+    /// back without it. The job moves on; the coordinator sends again.
+    pub fn lost_before_checkpoint(&mut self) {
+        self.interlude();
+        let view = self.fresh_view();
+        let actor = self.machine.record(view).actor;
+        self.add_if_taken(Step::PreCheck { actor });
+        self.add_if_taken(Step::SendRecord { actor });
+        let store = self.machine.record(view).store;
+        self.crash_after(Step::TakeRecord { store, view }, store);
+        self.settle(view, Moved::Yes);
+        self.add_if_taken(Step::TakeRepair { view });
+        self.add_if_taken(Step::SendUpdate { view });
+        if let Some(entry) = self.machine.side(view).entry {
+            let store = entry.destination;
+            self.crash_after(Step::TakeUpdate { store, view }, store);
+            self.add_if_taken(Step::CoordinatorTimeout { view });
+        }
+        let steps = self.random.between(0, 40);
+        self.run(steps);
+    }
+
+    /// The store is up, takes that step, and goes down.
+    fn crash_after(&mut self, taking: Step, store: u8) {
+        self.add_if_taken(Step::Restart { store });
+        self.interlude();
+        self.add_if_taken(taking);
+        self.add_if_taken(Step::Crash { store });
+        if self.random.one_in(2) {
+            self.add_if_taken(Step::Restart { store });
+        }
     }
 
     /// A chain of interactions, each with causes whose receipts move after it was sent.
@@ -203,6 +243,13 @@ impl Draft {
         }
     }
 
+    /// The update's destination sends what it owes.
+    fn checkpoint_destination(&mut self, view: View) {
+        if let Some(entry) = self.machine.side(view).entry {
+            self.add_if_taken(Step::Checkpoint { store: entry.destination });
+        }
+    }
+
     /// Works off the queue of the view's actor until the view is settled, moved or not.
     fn settle(&mut self, view: View, moved: Moved) {
         let actor = self.machine.record(view).actor;
@@ -228,6 +275,8 @@ impl Draft {
         let place = self.machine.place(store, view);
         if place.count(What::Ack) > 0 {
             Step::TakeAck { store, view }
+        } else if place.ack_owed {
+            Step::Checkpoint { store }
         } else if place.count(What::Record) == 0 {
             Step::Timeout { actor, store: self.other_store(actor, store) }
         } else if self.machine.is_up(store) {

@@ -1,8 +1,10 @@
-//! Document 01's list of what makes a machine value broken, and what readings 7 adds.
+//! Document 01's list of what makes a machine value broken, over both states of a store, and what
+//! readings 7 adds.
 
 use crate::common::{run, M, S, SENDER_MOVES};
 use peer::machine::{
-    Actor, Application, Contents, Entry, Machine, Phase, Place, Record, Repair, Status, View, What,
+    Actor, Application, Contents, Entry, Holding, Machine, Phase, Place, Record, Repair, Status,
+    View, What,
 };
 use peer::random::Random;
 use peer::refusal::Refusal;
@@ -107,11 +109,18 @@ fn unused_slots_that_arent_blank() {
         |m| record(m, 3, 0).tries = 1,
         |m| m.side_mut(View::sender(3)).repair = Some(REPAIR),
         |m| m.side_mut(View::receiver(3)).entry = Some(ENTRY),
-        |m| place(m, 0, 3, 0).viewlink = Some(0),
-        |m| place(m, 3, 0, 0).viewlink = Some(0),
+        |m| place(m, 0, 3, 0).working.viewlink = Some(0),
+        |m| place(m, 3, 0, 0).working.viewlink = Some(0),
+        |m| place(m, 0, 3, 0).checkpointed.viewlink = Some(0),
+        |m| place(m, 3, 0, 0).checkpointed.viewlink = Some(0),
+        |m| place(m, 0, 3, 0).ack_owed = true,
+        |m| place(m, 3, 0, 0).ack_owed = true,
+        |m| place(m, 0, 15, 1).uack_owed = true,
+        |m| place(m, 7, 0, 0).uack_owed = true,
         |m| place(m, 3, 0, 0).copies[What::Update as usize] = 1,
         |m| place(m, 7, 15, 1).copies[What::Ack as usize] = 1,
-        |m| place(m, 2, 15, 1).contents = place(m, 2, 0, 0).contents.clone(),
+        |m| place(m, 2, 15, 1).working = place(m, 2, 0, 0).working.clone(),
+        |m| place(m, 2, 15, 1).checkpointed = place(m, 2, 0, 0).working.clone(),
         |m| record(m, 1, 0).cause_links[1] = 1,
         |m| record(m, 2, 1).data = 9,
         |m| record(m, 2, 1).store = 1,
@@ -134,20 +143,31 @@ fn links_that_name_no_store() {
         |m| m.side_mut(View::sender(0)).repair = Some(Repair { own: 3, ..REPAIR }),
         |m| m.side_mut(View::sender(0)).entry = Some(Entry { destination: 3, ..ENTRY }),
         |m| m.side_mut(View::sender(0)).entry = Some(Entry { own: 3, ..ENTRY }),
-        |m| place(m, 2, 0, 0).viewlink = Some(3),
+        |m| place(m, 2, 0, 0).working.viewlink = Some(3),
+        |m| place(m, 2, 0, 0).checkpointed.viewlink = Some(3),
     ]);
 }
 
 #[test]
 fn contents_that_differ_from_the_record() {
-    fn contents(machine: &mut Machine) -> &mut Contents {
-        place(machine, 2, 0, 0).contents.as_mut().expect("store 2 holds the sender's view")
+    fn held(machine: &mut Machine) -> &mut Contents {
+        contents(&mut place(machine, 2, 0, 0).working)
+    }
+    fn kept(machine: &mut Machine) -> &mut Contents {
+        contents(&mut place(machine, 2, 0, 0).checkpointed)
+    }
+    fn contents(holding: &mut Holding) -> &mut Contents {
+        holding.contents.as_mut().expect("store 2 holds the sender's view")
     }
     assert_broken(&[
-        |m| contents(m).asserter = 1,
-        |m| contents(m).data = 8,
-        |m| contents(m).causes = 1,
-        |m| contents(m).cause_links[3] = 1,
+        |m| held(m).asserter = 1,
+        |m| held(m).data = 8,
+        |m| held(m).causes = 1,
+        |m| held(m).cause_links[3] = 1,
+        |m| kept(m).asserter = 1,
+        |m| kept(m).data = 8,
+        |m| kept(m).causes = 1,
+        |m| kept(m).cause_links[3] = 1,
     ]);
 }
 
@@ -174,8 +194,14 @@ fn phases_that_dont_fit_what_is_there() {
     assert_broken(&[
         |m| place(m, 1, 1, 0).copies[What::Record as usize] = 1,
         |m| place(m, 1, 2, 1).copies[What::Ack as usize] = 1,
-        |m| place(m, 1, 1, 0).contents = Some(record(m, 1, 0).contents()),
-        |m| place(m, 1, 2, 1).contents = Some(record(m, 2, 1).contents()),
+        |m| place(m, 1, 1, 0).working.contents = Some(record(m, 1, 0).contents()),
+        |m| place(m, 1, 2, 1).working.contents = Some(record(m, 2, 1).contents()),
+        |m| place(m, 1, 1, 0).checkpointed.contents = Some(record(m, 1, 0).contents()),
+        |m| place(m, 1, 2, 1).checkpointed.contents = Some(record(m, 2, 1).contents()),
+        |m| place(m, 1, 1, 0).ack_owed = true,
+        |m| place(m, 1, 2, 1).ack_owed = true,
+        |m| place(m, 1, 0, 1).uack_owed = true,
+        |m| place(m, 0, 1, 0).uack_owed = true,
         |m| m.side_mut(View::receiver(0)).repair = Some(REPAIR),
         |m| m.side_mut(View::receiver(0)).entry = Some(ENTRY),
         |m| place(m, 1, 0, 1).copies[What::Update as usize] = 1,
@@ -253,11 +279,42 @@ fn what_readings_7_lets_pass() {
         |m| record(m, 2, 0).changed = true,
         |m| record(m, 2, 0).tries = 3,
         |m| record(m, 0, 0).tries = 3,
-        |m| place(m, 2, 0, 0).contents = None,
+        |m| place(m, 2, 0, 0).working.contents = None,
         |m| m.side_mut(View::sender(0)).repair = Some(REPAIR),
-        |m| place(m, 0, 2, 1).viewlink = Some(2),
+        |m| place(m, 0, 2, 1).working.viewlink = Some(2),
         |m| m.side_mut(View::sender(0)).entry = Some(Entry { destination: 0, ..ENTRY }),
     ]);
+}
+
+#[test]
+fn what_no_run_reaches_of_a_stores_two_states_is_sound() {
+    assert_sound(&[
+        // Down with notes, or with a working state unlike the checkpoint.
+        |m| m.stores[1].up = false,
+        |m| {
+            m.stores[2].up = false;
+            place(m, 2, 0, 0).checkpointed = Holding::default();
+        },
+        // Contents in the checkpoint that the working state lacks.
+        |m| place(m, 2, 0, 0).working = Holding::default(),
+        |m| place(m, 0, 0, 0).checkpointed.contents = Some(record(m, 0, 0).contents()),
+        |m| place(m, 0, 2, 1).checkpointed.viewlink = Some(2),
+        // A note without contents, or beside fifteen copies.
+        |m| place(m, 0, 0, 0).ack_owed = true,
+        |m| place(m, 2, 0, 0).uack_owed = true,
+        |m| {
+            place(m, 1, 0, 1).copies[What::Ack as usize] = 15;
+            assert!(place(m, 1, 0, 1).ack_owed);
+        },
+    ]);
+}
+
+#[test]
+fn a_checkpoint_can_erase_what_only_an_unreached_value_holds() {
+    let mut machine = sound();
+    place(&mut machine, 2, 0, 0).working = Holding::default();
+    assert_eq!(machine.take(Step::Checkpoint { store: 2 }), Ok(()));
+    assert_eq!(*machine.lasting(2, View::sender(0)), Holding::default());
 }
 
 #[test]

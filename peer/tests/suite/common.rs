@@ -14,13 +14,15 @@ pub const M: &str = "
 /// Document 01's send S.
 pub const S: &str = "send 0 1 own 0 data 7 causes -\n";
 
-/// After S: the sender moves to store 2, which takes and acknowledges its record, and it settles.
+/// After S: the sender moves to store 2, which takes its record, makes a checkpoint and so
+/// acknowledges it, and it settles.
 pub const SENDER_MOVES: &str = "
     pre-check 0
     send-record 0
     timeout 0 store 2
     send-record 0
     take-record store 2 key 0 role 0
+    checkpoint 2
     take-ack store 2 key 0 role 0
     post-check 0
 ";

@@ -8,9 +8,10 @@ use peer::pair::pair;
 use peer::programs::{inspect, recorder};
 use peer::text;
 
-const EXAMPLES: [&str; 7] = [
+const EXAMPLES: [&str; 8] = [
     "crash-and-restart",
     "lost-acknowledgement",
+    "lost-before-checkpoint",
     "lost-record",
     "right-pair",
     "rollback",
@@ -63,6 +64,16 @@ fn the_slow_answer_keeps_the_job_at_its_store_without_a_repair() {
     let (store, changed, tries) = (0, 0, 2);
     assert!(inspection.contains(&format!("\nV 0 0 0 5 7 {store} 1 {changed} {tries} 0\n")));
     assert!(!inspection.lines().any(|line| line.starts_with("R ") || line.starts_with("E ")));
+    assert!(inspection.contains("\ndrain 0 0\n"));
+}
+
+#[test]
+fn what_is_lost_before_the_checkpoint_was_never_acknowledged() {
+    let inspection =
+        String::from_utf8(kept("lost-before-checkpoint", "inspect")).expect("lines of text");
+    assert!(!inspection.contains("S 0 0 0 "), "store 0 has nothing of the sender's view");
+    assert!(inspection.contains("\nCS 2 0 0 0 7 0\nCL 2 0 0 1\n"));
+    assert!(inspection.contains("\nCS 1 0 1 1 7 0\nCL 1 0 1 2\n"));
     assert!(inspection.contains("\ndrain 0 0\n"));
 }
 

@@ -112,12 +112,15 @@ fn the_copy_or_entry_that_isnt_there_is_named() {
             "7: the coordinator's entry for key 0 role 0 is to-send and not waiting",
         ),
         ("restart 0", "6: store 0 is up"),
+        ("checkpoint 3", "2: there is no store 3, only stores 0 to 2"),
     ] {
         let book = format!("{M}{S}{SENDER_MOVES}take-repair key 0 role 0\n{step}");
         assert_eq!(told_last(&book), told);
     }
-    let down = format!("{M}{S} crash 1 \n take-record store 1 key 0 role 0");
-    assert_eq!(told_last(&down), "5: store 1 is down");
+    for step in ["take-record store 1 key 0 role 0", "checkpoint 1"] {
+        let down = format!("{M}{S} crash 1 \n {step}");
+        assert_eq!(told_last(&down), "5: store 1 is down");
+    }
 }
 
 #[test]

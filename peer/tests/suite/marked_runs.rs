@@ -1,4 +1,4 @@
-//! Document 01's marked runs W1 to W12.
+//! Document 01's marked runs W1 to W12, with the numbers that document 02 gives them.
 
 use crate::common::{run, M, S};
 use peer::book;
@@ -17,12 +17,12 @@ fn run_taken(text: &str) -> Machine {
     machine
 }
 
-/// Checks that the view is settled in that store, which holds it with that viewlink.
+/// Checks that the view is settled in that store, whose checkpoint holds it with that viewlink.
 fn assert_settled(machine: &Machine, view: View, store: u8, link: u8) {
     assert_eq!(machine.record(view).phase, Phase::Settled);
     assert_eq!(machine.record(view).store, store);
-    assert_eq!(machine.place(store, view).contents, Some(machine.record(view).contents()));
-    assert_eq!(machine.place(store, view).viewlink, Some(link));
+    assert_eq!(machine.lasting(store, view).contents, Some(machine.record(view).contents()));
+    assert_eq!(machine.lasting(store, view).viewlink, Some(link));
 }
 
 #[test]
@@ -31,9 +31,9 @@ fn w1_a_fresh_machine_drains_in_no_steps() {
 }
 
 #[test]
-fn w2_one_interaction_drains_in_eleven_steps() {
+fn w2_one_interaction_drains_in_thirteen_steps() {
     let mut machine = run_taken(&format!("{M}{S}"));
-    assert_eq!(machine.drain(), Ok(11));
+    assert_eq!(machine.drain(), Ok(13));
     assert_settled(&machine, SENDER, 0, 1);
     assert_settled(&machine, RECEIVER, 1, 0);
 }
@@ -50,7 +50,7 @@ fn w3_both_records_lost() {
         lose record store 0 key 0 role 0
         lose record store 1 key 0 role 1"
     ));
-    assert_eq!(machine.drain(), Ok(18));
+    assert_eq!(machine.drain(), Ok(22));
     assert_settled(&machine, SENDER, 2, 2);
     assert_settled(&machine, RECEIVER, 2, 2);
 }
@@ -64,7 +64,7 @@ fn w4_only_the_senders_record_lost() {
         send-record 0
         lose record store 0 key 0 role 0"
     ));
-    assert_eq!(machine.drain(), Ok(14));
+    assert_eq!(machine.drain(), Ok(17));
     assert_settled(&machine, SENDER, 2, 1);
     assert_settled(&machine, RECEIVER, 1, 2);
 }
@@ -76,6 +76,7 @@ fn w5_an_ack_from_a_store_that_was_left() {
         pre-check 0
         send-record 0
         take-record store 0 key 0 role 0
+        checkpoint 0
         timeout 0 store 2
         take-ack store 0 key 0 role 0"
     ));
@@ -137,7 +138,7 @@ fn w11_a_list_of_one_store() {
 fn w12_a_walk_before_and_after_the_drain() {
     let mut machine = run_taken(&format!("{M}{S} receive 0 \n send 1 0 own 1 data 7 causes 0"));
     assert_eq!(machine.walk(1), Err(Refusal::Open));
-    assert_eq!(machine.drain(), Ok(21));
+    assert_eq!(machine.drain(), Ok(25));
     assert_eq!(machine.walk(1), Ok(Walk { keys: vec![1, 0], lookups: 3 }));
     assert_eq!(machine.walk(2), Err(Refusal::NotInMachine));
 }

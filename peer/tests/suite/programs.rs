@@ -30,16 +30,20 @@ V 0 0 0 1 7 0 1 0 0 0
 V 0 1 1 1 7 1 0 0 0 0
 W 0 13
 W 1 2
-drain 0 10
+drain 0 12
 M 3 2 1 7
 A 0 0 5
 A 1 1 6
 V 0 0 0 5 7 0 1 0 0 0
 S 0 0 0 0 7 0
 L 0 0 0 1
+CS 0 0 0 0 7 0
+CL 0 0 0 1
 V 0 1 1 5 7 1 0 0 0 0
 S 1 0 1 1 7 0
 L 1 0 1 0
+CS 1 0 1 1 7 0
+CL 1 0 1 0
 W 0 0 1 1 0
 W 1 2
 ";
@@ -52,8 +56,8 @@ fn everything_in_flight_is_inspected() {
         "{M}{S}{SENDER_MOVES}
         crash 1"
     ));
-    let expected = "run 0 9 9
-answers 0 0 0 0 0 0 0 0 0
+    let expected = "run 0 10 10
+answers 0 0 0 0 0 0 0 0 0 0
 M 3 2 1 5
 A 0 0 5
 A 1 1 6
@@ -62,15 +66,17 @@ R 0 0 1 2
 F 0 0 0 1 0 0 0
 S 2 0 0 0 7 0
 L 2 0 0 1
+CS 2 0 0 0 7 0
+CL 2 0 0 1
 V 0 1 1 0
 P 0 0 7
 W 0 13
 W 1 2
 drain 5 0
-restarted drain 0 10
+restarted drain 0 12
 ";
     assert_eq!(inspect(&book)[..expected.len()], *expected);
-    assert_eq!(recorder(&book), "3 2 1 9 9\n0 0 5 2 1\n0 1 0 - -\n");
+    assert_eq!(recorder(&book), "3 2 1 10 10\n0 0 5 2 1\n0 1 0 - -\n");
 }
 
 #[test]
@@ -95,13 +101,42 @@ fn refused_books_give_their_number_alone() {
 }
 
 #[test]
+fn what_isnt_checkpointed_is_inspected_and_not_listed() {
+    let taken = format!(
+        "{M}{S}
+        receive 0
+        pre-check 0
+        send-record 0
+        timeout 0 store 0
+        send-record 0
+        take-record store 0 key 0 role 0
+        "
+    );
+    let (held, kept) = ("S 0 0 0 0 7 0\nL 0 0 0 1\n", "CS 0 0 0 0 7 0\nCL 0 0 0 1\n");
+    let after = |steps: &str| bytes(&format!("{taken}{steps}"));
+    let shows = |steps: &str, lines: &str, listed: &str| {
+        let (inspection, listing) = (inspect(&after(steps)), recorder(&after(steps)));
+        assert!(inspection.contains(&format!("\nV 0 0 0 3 7 0 1 0 1 0\n{lines}V 0 1")), "{steps}");
+        assert!(listing.ends_with(&format!("\n0 0 3 0 {listed}\n0 1 1 1 -\n")), "{steps}");
+    };
+    shows("", &format!("{held}N 0 0 0 1 0\nF 0 0 0 1 0 0 0\n"), "-");
+    shows("checkpoint 0", &format!("{held}{kept}F 0 0 0 1 1 0 0\n"), "1");
+    shows("crash 0", "F 0 0 0 1 0 0 0\n", "-");
+    shows("checkpoint 0 \n crash 0", &format!("{held}{kept}F 0 0 0 1 1 0 0\n"), "1");
+    let second = "take-record store 0 key 0 role 0 \n";
+    shows(second, &format!("{held}N 0 0 0 1 0\n"), "-");
+    shows(&format!("{second} checkpoint 0"), &format!("{held}{kept}F 0 0 0 0 1 0 0\n"), "1");
+}
+
+#[test]
 fn an_unreceived_view_shows_no_link_even_where_a_store_has_one() {
     let book = bytes(&format!(
         "{M}{S}{SENDER_MOVES}
         take-repair key 0 role 0
         send-update key 0 role 0
-        take-update store 1 key 0 role 0"
+        take-update store 1 key 0 role 0
+        checkpoint 1"
     ));
-    assert!(inspect(&book).contains("V 0 1 1 0\nP 0 0 7\nL 1 0 1 2\n"));
+    assert!(inspect(&book).contains("V 0 1 1 0\nP 0 0 7\nL 1 0 1 2\nCL 1 0 1 2\n"));
     assert!(recorder(&book).ends_with("\n0 1 0 - -\n"));
 }

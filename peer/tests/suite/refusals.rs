@@ -90,11 +90,30 @@ fn acks_and_losses_dont_need_a_store_that_is_up() {
         pre-check 0
         send-record 0
         take-record store 0 key 0 role 0
+        checkpoint 0
         crash 0
         "
     );
     assert_eq!(last_answer(&format!("{acknowledged} take-ack store 0 key 0 role 0")), 0);
     assert_eq!(last_answer(&format!("{acknowledged} lose ack store 0 key 0 role 0")), 0);
+}
+
+#[test]
+fn a_checkpoint_needs_a_store_that_is_up() {
+    assert_eq!(last_answer(&format!("{M} checkpoint 3")), 2);
+    assert_eq!(last_answer(&format!("{M} crash 1 \n checkpoint 1")), 5);
+    assert_eq!(last_answer(&format!("{M} crash 1 \n checkpoint 2")), 0);
+    assert_eq!(last_answer(&format!("{M} crash 1 \n restart 1 \n checkpoint 1")), 0);
+}
+
+#[test]
+fn an_answer_isnt_there_before_its_checkpoint() {
+    let taken =
+        format!("{M}{S} pre-check 0 \n send-record 0 \n take-record store 0 key 0 role 0 \n");
+    assert_eq!(last_answer(&format!("{taken} take-ack store 0 key 0 role 0")), 7);
+    assert_eq!(last_answer(&format!("{taken} lose ack store 0 key 0 role 0")), 7);
+    assert_eq!(last_answer(&format!("{taken} checkpoint 2 \n take-ack store 0 key 0 role 0")), 7);
+    assert_eq!(last_answer(&format!("{taken} checkpoint 0 \n take-ack store 0 key 0 role 0")), 0);
 }
 
 #[test]
@@ -130,7 +149,7 @@ fn the_whole_book_is_read_for_its_form_first() {
     assert_eq!(refusal(&[]), 10);
     assert_eq!(refusal(&[0, 0, 0, 0]), 11);
     assert_eq!(refusal(&[0, 0, 0, 0, 0]), 10);
-    assert_eq!(refusal(&[0, 0, 1, 0, 17]), 10);
+    assert_eq!(refusal(&[0, 0, 1, 0, KINDS + 1]), 10);
     assert_eq!(refusal(&[0, 0, 1, 0, 0]), 10);
 }
 

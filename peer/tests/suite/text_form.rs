@@ -31,6 +31,7 @@ lose uack store 0 key 0 role 0
 lose 4 store 0 key 0 role 0
 crash 1
 restart 1
+checkpoint 1
 ";
 
 fn error(text: &str) -> String {

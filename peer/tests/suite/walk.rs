@@ -1,7 +1,7 @@
 //! The order of a walk, and what it needs.
 
 use crate::common::run;
-use peer::machine::{Machine, View};
+use peer::machine::{Holding, Machine, Store, View};
 use peer::refusal::Refusal;
 use peer::walk::Walk;
 
@@ -86,10 +86,10 @@ fn a_walk_follows_links_to_where_the_records_moved() {
 #[test]
 fn everything_on_the_way_must_be_there() {
     let missing: [fn(&mut Machine); 4] = [
-        |machine| machine.place_mut(2, View::sender(3)).contents = None,
-        |machine| machine.place_mut(2, View::receiver(1)).contents = None,
-        |machine| machine.place_mut(2, View::receiver(1)).viewlink = None,
-        |machine| machine.place_mut(1, View::sender(1)).contents = None,
+        |machine| machine.place_mut(2, View::sender(3)).checkpointed.contents = None,
+        |machine| machine.place_mut(2, View::receiver(1)).checkpointed.contents = None,
+        |machine| machine.place_mut(2, View::receiver(1)).checkpointed.viewlink = None,
+        |machine| machine.place_mut(1, View::sender(1)).checkpointed.contents = None,
     ];
     for remove in missing {
         let mut machine = fork();
@@ -101,12 +101,24 @@ fn everything_on_the_way_must_be_there() {
 }
 
 #[test]
+fn the_working_state_doesnt_count() {
+    let mut machine = fork();
+    machine.stores.iter_mut().flat_map(Store::places_mut).for_each(|place| {
+        place.working = Holding::default();
+    });
+    assert!(!machine.is_broken());
+    assert_eq!(machine.walk(3), answer(&[3, 1, 0, 2], 7));
+}
+
+#[test]
 fn a_key_met_again_is_not_looked_up_again() {
     let mut machine = diamond();
     // Key 2's way to key 0 leads to a store that has no receipt of it.
     machine.side_mut(View::sender(2)).record.cause_links[0] = 0;
     let contents = machine.record(View::sender(2)).contents();
-    machine.place_mut(1, View::sender(2)).contents = Some(contents);
+    let place = machine.place_mut(1, View::sender(2));
+    place.checkpointed.contents = Some(contents.clone());
+    place.working.contents = Some(contents);
     assert!(!machine.is_broken());
     assert_eq!(machine.walk(2), Err(Refusal::Open));
     assert_eq!(machine.walk(3), answer(&[3, 1, 0, 2], 7));

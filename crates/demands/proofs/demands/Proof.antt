@@ -8,6 +8,7 @@ use Rattle.keeps.proofs.Applies.{step-refusals}
 use Rattle.keeps.proofs.Keeps.{refusal-gives-back, keeps, step-keeps}
 use Rattle.keeps.proofs.Laws.{one-result as one-step, broken-gives, refused-gives, taken-exactly, taken-gives, answer-zero, joint-same, made-counts, sends-new-key, send-writes-links, receive-writes-link, store-writes-links, refuser-out, constant-out, pretender-out, results-differ}
 use Rattle.keeps.proofs.Onward.{step-onward, closed-says, closed-stays}
+use Rattle.keeps.proofs.Lasting.{blank-backed, step-backed, step-lasts}
 use Rattle.reads.proofs.Again.{reads-alike, writes-again, one-reading}
 use Rattle.reads.proofs.Applies.{book-refusals, malformed-exactly}
 use Rattle.reads.proofs.Both.{read-as-itself, formed-exactly}
@@ -21,11 +22,13 @@ use Rattle.reaches.proofs.Laws.{one-result as one-walk, refused-empty, answered
 use Rattle.marked.proofs.Marked.{marked-runs}
 use Rattle.guarantees.proofs.Demand.{one-acknowledgement, kept-for-ever, cause-links, stays-closed-for-ever, view-links}
 use Rattle.guarantees.proofs.Drained.{every-call, the-drain, books}
+use Rattle.guarantees.proofs.Lasting.{ack-in-flight, uack-in-flight, crash-loses-nothing, lasts-for-ever}
 use Rattle.guarantees.proofs.Lookup.{lookup}
 use Rattle.guarantees.proofs.Recovery.{recovery}
 use Rattle.guarantees.proofs.Sent.{as-sent}
 use Rattle.guarantees.proofs.Walking.{the-walk, every-walk}
 use Rattle.bites.proofs.Further.{bites-further}
+use Rattle.bites.proofs.Checkpoints.{bites-checkpoints}
 use Rattle.bites.proofs.Witnesses.{witnesses, bound-met}
 use Rattle.bites.proofs.Wrong.{bites}
 use Rattle.demands.specs.Demands.{Demands}
@@ -82,6 +85,10 @@ demanded =
       marked-runs = marked-runs;
       one-acknowledgement = one-acknowledgement;
       kept-for-ever = kept-for-ever;
+      ack-in-flight = ack-in-flight;
+      uack-in-flight = uack-in-flight;
+      crash-loses-nothing = crash-loses-nothing;
+      lasts-for-ever = lasts-for-ever;
       as-sent = as-sent;
       cause-links = cause-links;
       stays-closed-for-ever = stays-closed-for-ever;
@@ -95,6 +102,7 @@ demanded =
       witnesses = witnesses;
       bites = bites;
       bites-further = bites-further;
+      bites-checkpoints = bites-checkpoints;
       bound-met = bound-met;
       fresh-unbroken = fresh-unbroken;
       empty-unbroken = empty-unbroken;
@@ -106,6 +114,9 @@ demanded =
       step-onward = step-onward;
       closed-says = closed-says;
       closed-stays = closed-stays;
+      blank-backed = blank-backed;
+      step-backed = step-backed;
+      step-lasts = step-lasts;
       takes = takes;
       drain-ends = drain-ends;
       drains-once = drains-once;

@@ -10,11 +10,13 @@ use lib.Seq.{ext-getD}
 use Rattle.protocol.specs.Words.{bit, table}
 use Rattle.protocol.specs.Slots.{number, place, linksPlace, noView, noQueue, noContents, noLinks, noMessage, noRepair, noEntry, noStore, statusNumber, shelf, queue, message, view, repair, entry, contents, causeLinks}
 use Rattle.protocol.specs.Views.{blankView, unsetView, relinked}
-use Rattle.protocol.specs.Setup.{blankQueue, blankLinks, freshStore, freshWith, emptyMachine}
+use Rattle.protocol.specs.Stores.{freshStore}
+use Rattle.protocol.specs.Sweep.{hasContents}
+use Rattle.protocol.specs.Setup.{blankQueue, blankLinks, freshWith, emptyMachine}
 use Rattle.protocol.specs.declared.State.{State}
 use Rattle.protocol.specs.declared.View.{View}
 use Rattle.unbroken.specs.Blank.{OneEmpty}
-use Rattle.unbroken.specs.Unbroken.{CopySlot, Unbroken}
+use Rattle.unbroken.specs.Unbroken.{CopySlot, RowSlot, Unbroken}
 use Rattle.unbroken.proofs.Laws.Tests.{by-test}
 use Rattle.unbroken.proofs.Laws.Whole.{unbroken}
 use Rattle.unbroken.proofs.Laws.Bits.{bit-none}
@@ -37,6 +39,9 @@ none-left n h = omega arith
 
 no-copies : {stores p least at n : ℕ} → stores ≡ 0 → CopySlot stores p least at n → n ≡ 0
 no-copies {stores} {p} {least} {at} {n} z c = none-left n (λ l. omega (arith, c .atStore l))
+
+no-links : {stores made p : ℕ} {row : List ℕ} → stores ≡ 0 → RowSlot stores made p row → row ≡ replicate 32 0
+no-links {stores} {made} {p} {row} z r = all-same row 32 0 0 (r .long) (λ v b. none-left (getD row v 0) (λ l. omega (arith, r .linkAt v b .atStore l)))
 
 module _ (m : State) (s : Unbroken m) (noStores : m .stores ≡ 0) (noActors : m .actors ≡ 0) (noneMade : m .made ≡ 0) where
   phase-blank : (v : ℕ) → v < 32 → view m v .phase ≡ 0
@@ -73,8 +78,8 @@ module _ (m : State) (s : Unbroken m) (noStores : m .stores ≡ 0) (noActors : m
       let e = s .entryAt v h in
       e .blank (none-left (statusNumber (entry m v .status)) (λ l. omega (arith, e .settled l, phase-blank v h)))
 
-  held-none : (p v : ℕ) → p < 8 → v < 32 → contents m p v .held ≡ false
-  held-none p v h k = by-test (contents m p v .held) (λ t. absurd (omega (arith, s .contentsAt p v h k .atStore t))) (λ t. t)
+  held-none : (p v : ℕ) → p < 8 → v < 32 → hasContents m p v ≡ false
+  held-none p v h k = by-test (hasContents m p v) (λ t. absurd (omega (arith, s .contentsAt p v h k .atStore t))) (λ t. t)
 
   contents-blank : (p v : ℕ) → p < 8 → v < 32 → contents m p v ≡ noContents
   contents-blank p v h k = s .contentsAt p v h k .blank (held-none p v h k)
@@ -88,9 +93,18 @@ module _ (m : State) (s : Unbroken m) (noStores : m .stores ≡ 0) (noActors : m
   shelf-blank : (p : ℕ) → p < 8 → shelf m p ≡ freshStore false
   shelf-blank p h =
       let x = s .storeAt p h in
-      let up = x .upBlank (omega arith) in
-      let viewlinks = all-same (shelf m p .viewlinks) 32 0 0 (x .long) (λ v b. none-left _ (λ l. omega (arith, x .linkAt v b .atStore l))) in
-      λ i. record { up = up i; viewlinks = viewlinks i }
+      let b : m .stores ≤ p = omega arith in
+      let viewlinks = no-links noStores (x .working) in
+      let keptlinks = no-links noStores (x .checkpointed) in
+      λ i. record {
+        up = x .upBlank b i;
+        held = x .heldBlank b i;
+        kept = x .keptBlank b i;
+        acksowed = x .acksBlank b i;
+        uacksowed = x .uacksBlank b i;
+        viewlinks = viewlinks i;
+        keptlinks = keptlinks i;
+      }
 
   is-empty : m ≡ emptyMachine
   unfolding emptyMachine freshWith table

@@ -8,20 +8,21 @@ use native.Mathlib.Omega.{arith}
 use lib.ListN.{length, getD, replicate, length-replicate, getD-replicate}
 use lib.Dec.{ltb}
 use borrow.Author.Tests.{lt-ltb, le-ltb}
-use Rattle.protocol.specs.Words.{pick, table}
+use Rattle.protocol.specs.Words.{pick, bit, table}
 use Rattle.protocol.specs.Slots.{number, place, linksPlace, noView, noQueue, noContents, noLinks, noMessage, noRepair, noEntry, noStore}
 use Rattle.protocol.specs.Views.{blankView}
-use Rattle.protocol.specs.Setup.{blankQueue, blankLinks, freshStore, ofActors, freshWith, emptyMachine, legal}
-use Rattle.protocol.specs.Broken.{brokenOf}
+use Rattle.protocol.specs.Stores.{freshStore}
+use Rattle.protocol.specs.Setup.{blankQueue, blankLinks, ofActors, freshWith, emptyMachine, legal}
+use Rattle.protocol.specs.Broken.{hasIn, brokenOf}
 use Rattle.unbroken.specs.Blank.{Blank}
-use Rattle.unbroken.specs.Unbroken.{SetupKind, none, some, CausesSlot, ViewSlot, QueueSlot, MessageSlot, RepairSlot, EntrySlot, CopySlot, ContentsSlot, LinksSlot, ViewlinkSlot, StoreSlot, Unbroken}
+use Rattle.unbroken.specs.Unbroken.{SetupKind, none, some, CausesSlot, ViewSlot, QueueSlot, MessageSlot, RepairSlot, EntrySlot, CopySlot, ContentsSlot, LinksSlot, ViewlinkSlot, RowSlot, StoreSlot, Unbroken}
 use Rattle.protocol.specs.declared.View.{View}
 use Rattle.protocol.specs.declared.Store.{Store}
-use Rattle.unbroken.proofs.Laws.Tests.{not-both}
+use Rattle.unbroken.proofs.Laws.Tests.{not-both, nor-both}
 use Rattle.unbroken.proofs.Laws.Every.{length-table, table-at}
 use Rattle.unbroken.proofs.Laws.SlotTests.{legal-says}
 use Rattle.unbroken.proofs.Laws.Whole.{whole}
-use Rattle.unbroken.proofs.Laws.Bits.{no-bit}
+use Rattle.unbroken.proofs.Laws.Bits.{bit-none, no-bit}
 
 -- an actor's row, and none behind the last
 row : (actors : ℕ) (l : List ℕ) (a : ℕ) → a < 8 → a < actors → getD (table (ofActors actors l) 8) a 0 ≡ getD l a 0
@@ -103,38 +104,50 @@ blank-entry stores phase =
 blank-copies : (stores p least at : ℕ) → CopySlot stores p least at 0
 blank-copies stores p least at = record { copies15 = omega arith; atStore = λ h. absurd (omega arith); atView = λ h. absurd (omega arith) }
 
-blank-contents : (stores p : ℕ) (w : View) → ContentsSlot stores p w noContents
-blank-contents stores p w =
+pub blank-contents : (stores p : ℕ) (has : Bool) (w : View) → has ≡ false → ContentsSlot stores p has w noContents
+blank-contents stores p has w f =
     record {
-      atStore = λ e. absurd (false≢true e);
-      ready = λ e. absurd (false≢true e);
-      sameActor = λ e. absurd (false≢true e);
-      sameCauses = λ e. absurd (false≢true e);
-      sameWord = λ e. absurd (false≢true e);
+      atStore = λ e. not-both has e f;
+      ready = λ e. not-both has e f;
+      sameActor = λ e. not-both has e f;
+      sameCauses = λ e. not-both has e f;
+      sameWord = λ e. not-both has e f;
       blank = λ e. refl;
     }
 
-blank-links : (held : Bool) (links to : List ℕ) → held ≡ false → to ≡ replicate 16 0 → LinksSlot held links to
-blank-links held links to f e =
+pub blank-links : (has : Bool) (links to : List ℕ) → has ≡ false → to ≡ replicate 16 0 → LinksSlot has links to
+blank-links has links to f e =
     record {
       long = ap length e;
-      sameLinks = λ j h t. not-both held t f;
+      sameLinks = λ j h t. not-both has t f;
       linksBlank = λ j h t. ap (λ (l : List ℕ). getD l j 0) e ∙ getD-replicate {A = ℕ} 16 j 0 0 h;
     }
 
 blank-viewlink : (stores p v : ℕ) → ViewlinkSlot stores 0 p v 0
 blank-viewlink stores p v = record { linkIn = omega arith; atStore = λ h. absurd (omega arith); atView = λ h. absurd (omega arith) }
 
+blank-row : (stores p : ℕ) → RowSlot stores 0 p (replicate 32 0)
+blank-row stores p = record { long = refl; linkAt = λ v h. rw (getD-replicate {A = ℕ} 32 v 0 0 h) (blank-viewlink stores p v) }
+
 fresh-store : (stores p : ℕ) → StoreSlot stores 0 p (freshStore (ltb p stores))
 fresh-store stores p =
     record {
       upBlank = le-ltb p stores;
-      long = refl;
-      linkAt = λ v h. rw (getD-replicate {A = ℕ} 32 v 0 0 h) (blank-viewlink stores p v);
+      heldBlank = λ h. refl;
+      keptBlank = λ h. refl;
+      acksBlank = λ h. refl;
+      uacksBlank = λ h. refl;
+      working = blank-row stores p;
+      checkpointed = blank-row stores p;
     }
 
 store-at : (stores p : ℕ) → p < 8 → getD (table (λ q. freshStore (ltb q stores)) 8) p noStore ≡ freshStore (ltb p stores)
 store-at stores p h = table-at (λ q. freshStore (ltb q stores)) 8 noStore p h
+
+-- a set of a fresh store, one that is empty whether it is up or not
+fresh-set : (stores p v : ℕ) (set : Store → ℕ) → ((up : Bool) → set (freshStore up) ≡ 0) → p < 8
+    → bit (set (getD (table (λ q. freshStore (ltb q stores)) 8) p noStore)) v ≡ false
+fresh-set stores p v set e h = ap (λ (n : ℕ). bit n v) (ap set (store-at stores p h) ∙ e (ltb p stores)) ∙ bit-none v
 
 module _ (stores actors : ℕ) (homes lists : List ℕ) where
   view-at : (v : ℕ) → v < 32 → getD (replicate 32 blankView) v noView ≡ blankView
@@ -142,6 +155,9 @@ module _ (stores actors : ℕ) (homes lists : List ℕ) where
 
   place-in : (p v : ℕ) → p < 8 → v < 32 → place p v < 256
   place-in p v hp hv = omega arith
+
+  none-had : (p v : ℕ) → p < 8 → hasIn (getD (table (λ q. freshStore (ltb q stores)) 8) p noStore) v ≡ false
+  none-had p v h = nor-both _ _ (fresh-set stores p v (λ s. s .held) (λ up. refl) h) (fresh-set stores p v (λ s. s .kept) (λ up. refl) h)
 
   pub fresh-slots : SetupKind stores actors homes lists → Unbroken (freshWith stores actors homes lists)
   unfolding freshWith
@@ -177,11 +193,13 @@ module _ (stores actors : ℕ) (homes lists : List ℕ) where
         ackAt = λ p v hp hv. rw (getD-replicate {A = ℕ} 256 (place p v) 0 0 (place-in p v hp hv)) (blank-copies stores p 2 _);
         updateAt = λ p v hp hv. rw (getD-replicate {A = ℕ} 256 (place p v) 0 0 (place-in p v hp hv)) (blank-copies stores p 1 _);
         uackAt = λ p v hp hv. rw (getD-replicate {A = ℕ} 256 (place p v) 0 0 (place-in p v hp hv)) (blank-copies stores p 1 _);
-        contentsAt = λ p v hp hv. rw (getD-replicate 256 (place p v) noContents noContents (place-in p v hp hv)) (blank-contents stores p _);
+        contentsAt = λ p v hp hv. rw (getD-replicate 256 (place p v) noContents noContents (place-in p v hp hv)) (blank-contents stores p _ _ (none-had p v hp));
         linksAt = λ p k hp hk.
-            blank-links _ _ _ (ap (λ c. c .held) (getD-replicate 256 (place p (number k 0)) noContents noContents (place-in p (number k 0) hp (omega arith))))
+            blank-links _ _ _ (none-had p (number k 0) hp)
             (ap (λ l. l .to) (getD-replicate 128 (linksPlace p k) blankLinks noLinks (omega arith)));
         storeAt = λ p h. rw (store-at stores p h) (fresh-store stores p);
+        ackOwed = λ p v hp hv e. not-both _ e (fresh-set stores p v (λ s. s .acksowed) (λ up. refl) hp);
+        uackOwed = λ p v hp hv e. not-both _ e (fresh-set stores p v (λ s. s .uacksowed) (λ up. refl) hp);
       }
 
 pub fresh-unbroken : (stores actors : ℕ) (homes lists : List ℕ) → legal stores actors homes lists ≡ true → length homes ≡ 8 → length lists ≡ 8 → brokenOf (freshWith stores actors homes lists) ≡ false
@@ -198,7 +216,7 @@ unfolding freshWith
 fresh-blank stores actors homes lists =
     record {
       made = refl;
-      up = λ p h. ap (λ (s : Store). s .up) (store-at stores p h);
+      shelves = store-at stores;
       queues = λ a h. getD-replicate 8 a blankQueue noQueue h;
       messages = λ k h. getD-replicate 16 k noMessage noMessage h;
       views = λ v h. getD-replicate 32 v blankView noView h;
@@ -210,7 +228,6 @@ fresh-blank stores actors homes lists =
       uacks = λ p v hp hv. getD-replicate {A = ℕ} 256 (place p v) 0 0 (omega arith);
       held = λ p v hp hv. getD-replicate 256 (place p v) noContents noContents (omega arith);
       links = λ p k hp hk. ap (λ l. l .to) (getD-replicate 128 (linksPlace p k) blankLinks noLinks (omega arith));
-      viewlinks = λ p v hp hv. ap (λ (s : Store). getD (s .viewlinks) v 0) (store-at stores p hp) ∙ getD-replicate {A = ℕ} 32 v 0 0 hv;
     }
 
 pub fresh-setup : (stores actors : ℕ) (homes lists : List ℕ) (a : ℕ) → a < 8 → a < actors

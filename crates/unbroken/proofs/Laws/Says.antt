@@ -7,9 +7,9 @@ use native.Mathlib.Omega.{arith}
 use lib.ListN.{length, getD}
 use lib.Dec.{ltb, leb, eqb}
 use borrow.Author.Tests.{ltb-true, ltb-false, leb-true, leb-false, eqb-true, eqb-false, not-true, not-false, lt-ltb, le-ltb, le-leb, lt-leb, eq-eqb, ne-eqb}
-use Rattle.protocol.specs.Words.{pick, all}
+use Rattle.protocol.specs.Words.{pick, all, allBelow}
 use Rattle.unbroken.proofs.Laws.Tests.{and-left, and-right, and-both, or-else, or-of, not-of, not-back, pick-then, pick-else, pick-of, by-test, not-both}
-use Rattle.unbroken.proofs.Laws.Every.{all-at, all-each}
+use Rattle.unbroken.proofs.Laws.Every.{all-at, all-each, below-at, below-each}
 
 pub record Says (b : Bool) (P : Type 0) : Type 0 where
   pub tells : b ≡ true → P
@@ -75,6 +75,10 @@ all-says p P l d s =
       tells = λ e i h. s i (getD l i d) .tells (all-at p l d e i h);
       told = λ f. all-each p l d (λ i h. s i (getD l i d) .told (f i h));
     }
+
+pub below-says : (n : ℕ) (p : ℕ → Bool) (P : ℕ → Type 0) → ((i : ℕ) → Says (p i) (P i)) → Says (allBelow n p) ((i : ℕ) → i < n → P i)
+below-says n p P s =
+    record { tells = λ e i h. s i .tells (below-at n p e i h); told = λ f. below-each n p (λ i h. s i .told (f i h)) }
 
 -- a test that fails says that its fact doesn't hold
 pub un-splits : {b : Bool} {P : Type 0} → Says b P → Splits b P (P → ⊥)

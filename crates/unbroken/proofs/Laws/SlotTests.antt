@@ -7,11 +7,11 @@ use native.Mathlib.Omega.{arith}
 use lib.ListN.{length, getD}
 use lib.Dec.{leb, eqb}
 use Rattle.protocol.specs.Words.{bit, times}
-use Rattle.protocol.specs.Slots.{number, place, noView, noQueue, noContents, statusNumber, standing}
+use Rattle.protocol.specs.Slots.{number, noView, noQueue, noEntry, noStore, statusNumber, standing}
 use Rattle.protocol.specs.Setup.{storesIn, legalActor, legalActors, legal}
 use Rattle.protocol.specs.Broken.{linkFine, linksFine, isUnset, phaseFine, madeView, waits, queuedOnce, viewFine, standsFine, queueFine}
-use Rattle.protocol.specs.Broken.{messageFine, repairFine, entryFine, copiesFine, contentsFine, sameLinks, heldLinksFine, viewlinkFine, viewlinksFine, storeFine, setupFine}
-use Rattle.unbroken.specs.Unbroken.{LegalActor, LegalSetup, SetupKind, none, some, Unset, ViewSlot, QueueSlot, MessageSlot, RepairSlot, EntrySlot, CopySlot, ContentsSlot, LinksSlot, ViewlinkSlot, StoreSlot}
+use Rattle.protocol.specs.Broken.{messageFine, repairFine, entryFine, copiesFine, hasIn, contentsFine, sameLinks, heldLinksFine, viewlinkFine, viewlinksFine, noteFine, notesFine, blankStore, storeFine, setupFine}
+use Rattle.unbroken.specs.Unbroken.{LegalActor, LegalSetup, SetupKind, none, some, Unset, ViewSlot, QueueSlot, MessageSlot, RepairSlot, EntrySlot, CopySlot, ContentsSlot, LinksSlot, ViewlinkSlot, RowSlot, StoreSlot}
 use Rattle.protocol.specs.declared.View.{View}
 use Rattle.protocol.specs.declared.Queue.{Queue}
 use Rattle.protocol.specs.declared.Contents.{Contents}
@@ -23,7 +23,7 @@ use Rattle.protocol.specs.declared.Store.{Store}
 use Rattle.protocol.specs.declared.Status.{Status}
 use Rattle.protocol.specs.declared.Status.the-variants.{Nothing, ToSend, Waiting as Awaiting, Done}
 use Rattle.unbroken.proofs.Laws.Tests.{by-test, not-both}
-use Rattle.unbroken.proofs.Laws.Says.{Says, le-says, lt-says, eq-says, is-says, le-splits, lt-splits, eq-splits, zero-splits, is-splits, and-says, or-says, not-says, pick-says, all-says, un-splits, not-splits, put-says}
+use Rattle.unbroken.proofs.Laws.Says.{Says, le-says, lt-says, eq-says, is-says, le-splits, lt-splits, eq-splits, zero-splits, is-splits, and-says, or-says, not-says, pick-says, all-says, below-says, un-splits, not-splits, put-says}
 
 -- the cause links of a record
 abbrev LinkFacts : ℕ → ℕ → ℕ → ℕ → ℕ → Type 0
@@ -250,38 +250,39 @@ copies-says stores least number at n =
     (λ x. record { copies15 = x .0; atStore = λ h. x .1 h .0; atView = λ h. x .1 h .1 })
     (λ s. (s .copies15, λ h. (s .atStore h, s .atView h)))
 
--- what the stores hold
-pub contents-says : (stores : ℕ) (views : List View) (at : ℕ) (c : Contents) → Says (contentsFine stores views at c) (ContentsSlot stores (at / 32) (getD views (at % 32) noView) c)
-unfolding contentsFine
-contents-says stores views at c =
-    let w = getD views (at % 32) noView in
-    put-says
-    (pick-says (is-splits (c .held))
-    (and-says (and-says (and-says (and-says (lt-says (at / 32) stores) (le-says 2 (w .phase))) (eq-says (c .asserter) (w .actor))) (eq-says (c .causes) (w .causes))) (eq-says (c .word) (w .word)))
-    (and-says (and-says (eq-says (c .asserter) 0) (eq-says (c .causes) 0)) (eq-says (c .word) 0)))
-    (λ x. record {
-      atStore = λ h. x .0 h .0 .0 .0 .0;
-      ready = λ h. x .0 h .0 .0 .0 .1;
-      sameActor = λ h. x .0 h .0 .0 .1;
-      sameCauses = λ h. x .0 h .0 .1;
-      sameWord = λ h. x .0 h .1;
-      blank = λ h i. record { held = h i; asserter = x .1 h .0 .0 i; causes = x .1 h .0 .1 i; word = x .1 h .1 i };
-    })
-    (λ s. (λ h. ((((s .atStore h, s .ready h), s .sameActor h), s .sameCauses h), s .sameWord h), λ h. ((ap (λ (y : Contents). y .asserter) (s .blank h), ap (λ (y : Contents). y .causes) (s .blank h)), ap (λ (y : Contents). y .word) (s .blank h))))
+-- what the stores have
+module _ (shelves : List Store) (views : List View) where
+  pub contents-says : (stores at : ℕ) (c : Contents)
+      → Says (contentsFine stores views shelves at c) (ContentsSlot stores (at / 32) (hasIn (getD shelves (at / 32) noStore) (at % 32)) (getD views (at % 32) noView) c)
+  unfolding contentsFine
+  contents-says stores at c =
+      let w = getD views (at % 32) noView in
+      put-says
+      (pick-says (is-splits (hasIn (getD shelves (at / 32) noStore) (at % 32)))
+      (and-says (and-says (and-says (and-says (lt-says (at / 32) stores) (le-says 2 (w .phase))) (eq-says (c .asserter) (w .actor))) (eq-says (c .causes) (w .causes))) (eq-says (c .word) (w .word)))
+      (and-says (and-says (eq-says (c .asserter) 0) (eq-says (c .causes) 0)) (eq-says (c .word) 0)))
+      (λ x. record {
+        atStore = λ h. x .0 h .0 .0 .0 .0;
+        ready = λ h. x .0 h .0 .0 .0 .1;
+        sameActor = λ h. x .0 h .0 .0 .1;
+        sameCauses = λ h. x .0 h .0 .1;
+        sameWord = λ h. x .0 h .1;
+        blank = λ h i. record { asserter = x .1 h .0 .0 i; causes = x .1 h .0 .1 i; word = x .1 h .1 i };
+      })
+      (λ s. (λ h. ((((s .atStore h, s .ready h), s .sameActor h), s .sameCauses h), s .sameWord h), λ h. ((ap (λ (y : Contents). y .asserter) (s .blank h), ap (λ (y : Contents). y .causes) (s .blank h)), ap (λ (y : Contents). y .word) (s .blank h))))
 
-pub held-links-says : (contents : List Contents) (views : List View) (at : ℕ) (l : Links)
-    → Says (heldLinksFine contents views at l) (LinksSlot (getD contents (place (at / 16) (at % 16 * 2)) noContents .held) (getD views (at % 16 * 2) noView .links) (l .to))
-unfolding heldLinksFine sameLinks
-held-links-says contents views at l =
-    let c = getD contents (place (at / 16) (at % 16 * 2)) noContents in
-    let w = getD views (at % 16 * 2) noView in
-    put-says
-    (and-says (eq-says (length (l .to)) 16)
-    (pick-says (is-splits (c .held))
-    (all-says (λ j link. eqb link (getD (w .links) j 0)) (λ j link. link ≡ getD (w .links) j 0) (l .to) 0 (λ j link. eq-says link (getD (w .links) j 0)))
-    (all-says (λ j link. eqb link 0) (λ j link. link ≡ 0) (l .to) 0 (λ j link. eq-says link 0))))
-    (λ x. let long = x .0 in record { long = long; sameLinks = λ j h e. x .1 .0 e j (omega arith); linksBlank = λ j h e. x .1 .1 e j (omega arith) })
-    (λ s. let long = s .long in (long, (λ e j h. s .sameLinks j (omega arith) e, λ e j h. s .linksBlank j (omega arith) e)))
+  pub held-links-says : (at : ℕ) (l : Links)
+      → Says (heldLinksFine shelves views at l) (LinksSlot (hasIn (getD shelves (at / 16) noStore) (at % 16 * 2)) (getD views (at % 16 * 2) noView .links) (l .to))
+  unfolding heldLinksFine sameLinks
+  held-links-says at l =
+      let w = getD views (at % 16 * 2) noView in
+      put-says
+      (and-says (eq-says (length (l .to)) 16)
+      (pick-says (is-splits (hasIn (getD shelves (at / 16) noStore) (at % 16 * 2)))
+      (all-says (λ j link. eqb link (getD (w .links) j 0)) (λ j link. link ≡ getD (w .links) j 0) (l .to) 0 (λ j link. eq-says link (getD (w .links) j 0)))
+      (all-says (λ j link. eqb link 0) (λ j link. link ≡ 0) (l .to) 0 (λ j link. eq-says link 0))))
+      (λ x. let long = x .0 in record { long = long; sameLinks = λ j h e. x .1 .0 e j (omega arith); linksBlank = λ j h e. x .1 .1 e j (omega arith) })
+      (λ s. let long = s .long in (long, (λ e j h. s .sameLinks j (omega arith) e, λ e j h. s .linksBlank j (omega arith) e)))
 
 viewlink-says : (stores made p v l : ℕ) → Says (viewlinkFine stores made p v l) (ViewlinkSlot stores made p v l)
 viewlink-says stores made p v l =
@@ -289,14 +290,61 @@ viewlink-says stores made p v l =
     (λ x. record { linkIn = by-test (eqb l 0) (λ e. let z = zero-splits l .holds .tells e in omega arith) (λ e. x (zero-splits l .fails e) .0); atStore = λ h. x h .1 .0; atView = λ h. x h .1 .1 })
     (λ s h. (s .linkIn, (s .atStore h, s .atView h)))
 
-pub store-says : (stores made p : ℕ) (s : Store) → Says (storeFine stores made p s) (StoreSlot stores made p s)
-unfolding storeFine viewlinksFine
-store-says stores made p s =
+row-says : (stores made p : ℕ) (row : List ℕ) → Says (viewlinksFine stores made p row) (RowSlot stores made p row)
+unfolding viewlinksFine
+row-says stores made p row =
     put-says
-    (and-says (or-says (lt-splits p stores) (not-says (is-splits (s .up))))
-    (and-says (eq-says (length (s .viewlinks)) 32) (all-says (viewlinkFine stores made p) (ViewlinkSlot stores made p) (s .viewlinks) 0 (viewlink-says stores made p))))
-    (λ x. let long = x .1 .0 in record { upBlank = x .0; long = long; linkAt = λ v h. x .1 .1 v (omega arith) })
-    (λ t. let long = t .long in (t .upBlank, (long, λ v h. t .linkAt v (omega arith))))
+    (and-says (eq-says (length row) 32) (all-says (viewlinkFine stores made p) (ViewlinkSlot stores made p) row 0 (viewlink-says stores made p)))
+    (λ x. let long = x .0 in record { long = long; linkAt = λ v h. x .1 v (omega arith) })
+    (λ t. let long = t .long in (long, λ v h. t .linkAt v (omega arith)))
+
+-- what is owed, of a view of which `may` is asked
+abbrev pub Owed : ℕ → (ℕ → ℕ) → ℕ → Type 0
+Owed least number owed = (v : ℕ) → v < 32 → bit owed v ≡ true → least ≤ number v
+
+notes-say : (least : ℕ) (number : ℕ → ℕ) (owed : ℕ) → Says (notesFine (λ v. leb least (number v)) owed) (Owed least number owed)
+unfolding notesFine
+notes-say least number owed =
+    below-says 32 (noteFine (λ v. leb least (number v)) owed) (λ v. bit owed v ≡ true → least ≤ number v)
+    (λ v. or-says (not-splits (is-splits (bit owed v))) (le-says least (number v)))
+
+blank-says : (s : Store) → Says (blankStore s) (((((s .up ≡ false) × (s .held ≡ 0)) × (s .kept ≡ 0)) × (s .acksowed ≡ 0)) × (s .uacksowed ≡ 0))
+blank-says s =
+    and-says (and-says (and-says (and-says (not-says (is-splits (s .up))) (eq-says (s .held) 0)) (eq-says (s .kept) 0)) (eq-says (s .acksowed) 0)) (eq-says (s .uacksowed) 0)
+
+module _ (stores made : ℕ) (views : List View) (entries : List Entry) (p : ℕ) (s : Store) where
+  abbrev pub StoreKept : Type 0
+  StoreKept =
+      (StoreSlot stores made p s × Owed 2 (λ v. getD views v noView .phase) (s .acksowed))
+      × Owed 1 (λ v. statusNumber (getD entries v noEntry .status)) (s .uacksowed)
+
+  pub store-says : Says (storeFine stores made views entries p s) StoreKept
+  unfolding storeFine
+  store-says =
+      put-says
+      (and-says (and-says (and-says (and-says (or-says (lt-splits p stores) (blank-says s))
+      (notes-say 2 (λ v. getD views v noView .phase) (s .acksowed)))
+      (notes-say 1 (λ v. statusNumber (getD entries v noEntry .status)) (s .uacksowed)))
+      (row-says stores made p (s .viewlinks))) (row-says stores made p (s .keptlinks)))
+      (λ x.
+      let blank = x .0 .0 .0 .0 in (
+        (
+          record {
+            upBlank = λ h. blank h .0 .0 .0 .0;
+            heldBlank = λ h. blank h .0 .0 .0 .1;
+            keptBlank = λ h. blank h .0 .0 .1;
+            acksBlank = λ h. blank h .0 .1;
+            uacksBlank = λ h. blank h .1;
+            working = x .0 .1;
+            checkpointed = x .1;
+          },
+          x .0 .0 .0 .1,
+        ),
+        x .0 .0 .1,
+      ))
+      (λ y.
+      let t = y .0 .0 in
+      ((((λ h. ((((t .upBlank h, t .heldBlank h), t .keptBlank h), t .acksBlank h), t .uacksBlank h), y .0 .1), y .1), t .working), t .checkpointed))
 
 -- the setup
 legal-actor-says : (stores home list : ℕ) → Says (legalActor stores home list) (LegalActor stores home list)

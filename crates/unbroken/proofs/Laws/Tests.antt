@@ -36,6 +36,24 @@ pub nor-both : (a b : Bool) → a ≡ false → b ≡ false → a || b ≡ false
 nor-both true b h k = h
 nor-both false b h k = k
 
+-- a sum with nothing
+pub or-none : (a : Bool) → (a || false) ≡ a
+or-none true = refl
+or-none false = refl
+
+-- a sum holds of each of its parts, and of nothing else
+pub or-first : (a b : Bool) → a ≡ true → a || b ≡ true
+or-first true b e = refl
+or-first false b e = absurd (false≢true e)
+
+pub or-second : (a b : Bool) → b ≡ true → a || b ≡ true
+or-second true b e = refl
+or-second false b e = e
+
+pub or-cases : {P : Type 0} (a b : Bool) → a || b ≡ true → (a ≡ true → P) → (b ≡ true → P) → P
+or-cases true b e f g = f refl
+or-cases false b e f g = g e
+
 pub not-of : (a : Bool) → a ≡ false → not a ≡ true
 not-of true h = sym h
 not-of false h = refl

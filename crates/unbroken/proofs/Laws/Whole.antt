@@ -9,13 +9,14 @@ use lib.ListN.{length, getD}
 use lib.Dec.{ltb, leb, eqb}
 use borrow.Author.Tests.{not-false}
 use Rattle.protocol.specs.Slots.{number, place, linksPlace, noView, noQueue, noContents, noLinks, noMessage, noRepair, noEntry, noStore, statusNumber}
-use Rattle.protocol.specs.Slots.{view, queue, entry, contents, shelf}
+use Rattle.protocol.specs.Slots.{view, queue, entry, shelf}
+use Rattle.protocol.specs.Sweep.{hasContents}
 use Rattle.protocol.specs.Broken.{slotsFine, setupFine, rowsFine, viewFine, queueFine, messageFine, repairFine, entryFine, copiesFine, recordsFine, updatesFine, contentsFine, heldLinksFine, storeFine, jobsFine, placesFine, wholeOf, brokenOf}
-use Rattle.unbroken.specs.Unbroken.{Sized, QueueSlot, MessageSlot, RepairSlot, EntrySlot, CopySlot, ContentsSlot, LinksSlot, StoreSlot, Unbroken}
+use Rattle.unbroken.specs.Unbroken.{Sized, QueueSlot, MessageSlot, RepairSlot, EntrySlot, CopySlot, ContentsSlot, LinksSlot, Unbroken}
 use Rattle.protocol.specs.declared.State.{State}
 use Rattle.unbroken.proofs.Laws.Tests.{not-back}
 use Rattle.unbroken.proofs.Laws.Says.{Says, le-says, eq-says, is-says, lt-splits, and-says, or-says, all-says, put-says}
-use Rattle.unbroken.proofs.Laws.SlotTests.{ViewKept, view-says, queue-says, message-says, repair-says, entry-says, copies-says, contents-says, held-links-says, store-says, setup-says}
+use Rattle.unbroken.proofs.Laws.SlotTests.{ViewKept, view-says, queue-says, message-says, repair-says, entry-says, copies-says, contents-says, held-links-says, StoreKept, store-says, setup-says}
 
 slots-say : (m : State) → Says (slotsFine m) (Sized m)
 unfolding slotsFine
@@ -121,21 +122,21 @@ module _ (m : State) where
       (copies-says (m .stores) 1 (λ v. statusNumber (entry m v .status)))
 
   abbrev ContentsKept : Type 0
-  ContentsKept = (at : ℕ) → at < length (m .contents) → ContentsSlot (m .stores) (at / 32) (view m (at % 32)) (getD (m .contents) at noContents)
+  ContentsKept = (at : ℕ) → at < length (m .contents) → ContentsSlot (m .stores) (at / 32) (hasContents m (at / 32) (at % 32)) (view m (at % 32)) (getD (m .contents) at noContents)
 
   abbrev HeldLinksKept : Type 0
-  HeldLinksKept = (at : ℕ) → at < length (m .links) → LinksSlot (contents m (at / 16) (at % 16 * 2) .held) (view m (at % 16 * 2) .links) (getD (m .links) at noLinks .to)
+  HeldLinksKept = (at : ℕ) → at < length (m .links) → LinksSlot (hasContents m (at / 16) (at % 16 * 2)) (view m (at % 16 * 2) .links) (getD (m .links) at noLinks .to)
 
   abbrev StoresKept : Type 0
-  StoresKept = (p : ℕ) → p < length (m .shelves) → StoreSlot (m .stores) (m .made) p (shelf m p)
+  StoresKept = (p : ℕ) → p < length (m .shelves) → StoreKept (m .stores) (m .made) (m .views) (m .entries) p (shelf m p)
 
   places-say : Says (placesFine m) ((((((RecordsKept (m .records) × RecordsKept (m .acks)) × UpdatesKept (m .updates)) × UpdatesKept (m .uacks)) × ContentsKept) × HeldLinksKept) × StoresKept)
   unfolding placesFine
   places-say =
       and-says (and-says (and-says (and-says (and-says (and-says (records-say (m .records)) (records-say (m .acks))) (updates-say (m .updates))) (updates-say (m .uacks)))
-      (all-says (contentsFine (m .stores) (m .views)) (λ at. ContentsSlot (m .stores) (at / 32) (view m (at % 32))) (m .contents) noContents (contents-says (m .stores) (m .views))))
-      (all-says (heldLinksFine (m .contents) (m .views)) (λ at l. LinksSlot (contents m (at / 16) (at % 16 * 2) .held) (view m (at % 16 * 2) .links) (l .to)) (m .links) noLinks (held-links-says (m .contents) (m .views))))
-      (all-says (storeFine (m .stores) (m .made)) (StoreSlot (m .stores) (m .made)) (m .shelves) noStore (store-says (m .stores) (m .made)))
+      (all-says (contentsFine (m .stores) (m .views) (m .shelves)) (λ at. ContentsSlot (m .stores) (at / 32) (hasContents m (at / 32) (at % 32)) (view m (at % 32))) (m .contents) noContents (contents-says (m .shelves) (m .views) (m .stores))))
+      (all-says (heldLinksFine (m .shelves) (m .views)) (λ at l. LinksSlot (hasContents m (at / 16) (at % 16 * 2)) (view m (at % 16 * 2) .links) (l .to)) (m .links) noLinks (held-links-says (m .shelves) (m .views))))
+      (all-says (storeFine (m .stores) (m .made) (m .views) (m .entries)) (StoreKept (m .stores) (m .made) (m .views) (m .entries)) (m .shelves) noStore (store-says (m .stores) (m .made) (m .views) (m .entries)))
 
   abbrev Parts : Type 0
   Parts =
@@ -154,17 +155,17 @@ module _ (m : State) where
   CopyAt least number l p v at = CopySlot (m .stores) p least (number v) (getD l at 0)
 
   abbrev ContentsAt : ℕ → ℕ → ℕ → Type 0
-  ContentsAt p v at = ContentsSlot (m .stores) p (view m v) (getD (m .contents) at noContents)
+  ContentsAt p v at = ContentsSlot (m .stores) p (hasContents m p v) (view m v) (getD (m .contents) at noContents)
 
   abbrev LinksAt : ℕ → ℕ → ℕ → Type 0
-  LinksAt p k at = LinksSlot (contents m p (k * 2) .held) (view m (k * 2) .links) (getD (m .links) at noLinks .to)
+  LinksAt p k at = LinksSlot (hasContents m p (k * 2)) (view m (k * 2) .links) (getD (m .links) at noLinks .to)
 
   -- the sender's number, as the test writes it and as `number` does
-  links-number : (p k : ℕ) → LinksAt p k (linksPlace p k) → LinksSlot (contents m p (number k 0) .held) (view m (number k 0) .links) (getD (m .links) (linksPlace p k) noLinks .to)
-  links-number p k s = let q : k * 2 ≡ number k 0 = omega arith in subst (λ (n : ℕ). LinksSlot (contents m p n .held) (view m n .links) (getD (m .links) (linksPlace p k) noLinks .to)) q s
+  links-number : (p k : ℕ) → LinksAt p k (linksPlace p k) → LinksSlot (hasContents m p (number k 0)) (view m (number k 0) .links) (getD (m .links) (linksPlace p k) noLinks .to)
+  links-number p k s = let q : k * 2 ≡ number k 0 = omega arith in subst (λ (n : ℕ). LinksSlot (hasContents m p n) (view m n .links) (getD (m .links) (linksPlace p k) noLinks .to)) q s
 
-  links-double : (p k : ℕ) → LinksSlot (contents m p (number k 0) .held) (view m (number k 0) .links) (getD (m .links) (linksPlace p k) noLinks .to) → LinksAt p k (linksPlace p k)
-  links-double p k s = let q : number k 0 ≡ k * 2 = omega arith in subst (λ (n : ℕ). LinksSlot (contents m p n .held) (view m n .links) (getD (m .links) (linksPlace p k) noLinks .to)) q s
+  links-double : (p k : ℕ) → LinksSlot (hasContents m p (number k 0)) (view m (number k 0) .links) (getD (m .links) (linksPlace p k) noLinks .to) → LinksAt p k (linksPlace p k)
+  links-double p k s = let q : number k 0 ≡ k * 2 = omega arith in subst (λ (n : ℕ). LinksSlot (hasContents m p n) (view m n .links) (getD (m .links) (linksPlace p k) noLinks .to)) q s
 
   every-slot : Parts → Unbroken m
   every-slot x =
@@ -190,7 +191,9 @@ module _ (m : State) where
         uackAt = by-place (CopyAt 1 (λ v. statusNumber (entry m v .status)) (m .uacks)) (length (m .uacks)) (z .uacks) (p .0 .0 .0 .1);
         contentsAt = by-place ContentsAt (length (m .contents)) (z .contents) (p .0 .0 .1);
         linksAt = λ p′ k hp hk. links-number p′ k (by-links-place LinksAt (length (m .links)) (z .links) (p .0 .1) p′ k hp hk);
-        storeAt = λ p′ h. p .1 p′ (omega arith);
+        storeAt = λ p′ h. p .1 p′ (omega arith) .0 .0;
+        ackOwed = λ p′ v hp. p .1 p′ (omega arith) .0 .1 v;
+        uackOwed = λ p′ v hp. p .1 p′ (omega arith) .1 v;
       }
 
   every-part : Unbroken m → Parts
@@ -218,7 +221,7 @@ module _ (m : State) where
             ),
             to-links-place LinksAt (length (m .links)) (z .links) (λ p k hp hk. links-double p k (s .linksAt p k hp hk)),
           ),
-          λ p h. s .storeAt p (omega arith),
+          λ p h. ((s .storeAt p (omega arith), λ v. s .ackOwed p v (omega arith)), λ v. s .uackOwed p v (omega arith)),
         ),
       )
 

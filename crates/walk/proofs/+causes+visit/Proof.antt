@@ -71,10 +71,10 @@ visit-claims t = (
 )
 
 abbrev causes-Inv-loop : causes-lts.InvT-loop
-causes-Inv-loop closed held sets links viewlinks k link set out₀ j₀ out j = Going (λ m. Past m closed held sets links viewlinks) set k link out₀ out j
+causes-Inv-loop closed kept sets links viewlinks k link set out₀ j₀ out j = Going (λ m. Past m closed kept sets links viewlinks) set k link out₀ out j
 
 abbrev causes-μ-loop : causes-lts.MeasureT-loop
-causes-μ-loop closed held sets links viewlinks k link set out₀ j₀ out j = k - j
+causes-μ-loop closed kept sets links viewlinks k link set out₀ j₀ out j = k - j
 
 causes-sub-set : (t : ℕ) → causes-lts.Need-sub-set (causes-claims t) (causes-at t) causes.Post causes-Inv-loop causes-μ-loop
 causes-sub-set t c = omega arith

@@ -1,4 +1,5 @@
 -- `walk::receipt` meets its contract: by its tests. Assumes nothing.
+use mathlib.Core.Path.{sym}
 use borrow.Author.Tests.{le-leb, lt-leb}
 use borrow.Author.Needs.{needs}
 use Rattle.walk.proofs.receipt.Statement.{statement}
@@ -7,20 +8,14 @@ use Rattle.walk.proofs.receipt.Tie as tie
 returns : tie.Need-returns
 returns c = simp (le-leb _ _ (c .if1 .taken))
 
-mul-if2 : tie.Need-mul-if2
-mul-if2 c = search needs
+mul-is-kept : tie.Need-mul-is-kept
+mul-is-kept c = search needs
 
-mul-if2-2 : tie.Need-mul-if2-2
-mul-if2-2 c = search needs
+add-is-kept : tie.Need-add-is-kept
+add-is-kept c = search needs
 
-add-if2 : tie.Need-add-if2
-add-if2 c = search needs
-
-add-if2-2 : tie.Need-add-if2-2
-add-if2-2 c = search needs
-
-element-copy-out-if2 : tie.Need-element-copy-out-if2
-element-copy-out-if2 c = search needs
+is-kept-requires : tie.Need-is-kept-requires
+is-kept-requires c κs = search needs
 
 mul-wide : tie.Need-mul-wide
 mul-wide c = search needs
@@ -41,21 +36,19 @@ wide-requires : tie.Need-wide-requires
 wide-requires c κs = search needs
 
 returns-2 : tie.Need-returns-2
-returns-2 c = simp (lt-leb _ _ (c .before .before .before .before .if1 .left), c .before .before .if2 .taken, c .wide .ensures)
+returns-2 c = simp (lt-leb _ _ (c .before .before .before .before .if1 .left), sym (c .before .before .before .is-kept .ensures), c .before .before .if2 .taken, c .wide .ensures)
 
 returns-3 : tie.Need-returns-3
-returns-3 c = simp (lt-leb _ _ (c .before .before .if1 .left), c .if2 .left)
+returns-3 c = simp (lt-leb _ _ (c .before .before .if1 .left), sym (c .before .is-kept .ensures), c .if2 .left)
 
 pub receipt-spec : {M : Type 1} → statement M
 receipt-spec =
     tie.close
     (tie.spec
     returns
-    mul-if2
-    mul-if2-2
-    add-if2
-    add-if2-2
-    element-copy-out-if2
+    mul-is-kept
+    add-is-kept
+    is-kept-requires
     mul-wide
     mul-wide-2
     add-wide

@@ -3,7 +3,6 @@
 use Prim.Native.Nat.{_<_}
 use native.Mathlib.Nat.{add-zero}
 use native.Mathlib.Omega.{arith}
-use lib.ListN.{length-map}
 use borrow.Author.Tests.{le-leb, lt-leb}
 use Rattle.unbroken.proofs.Laws.{unbroken}
 use Rattle.protocol.specs.Walk.{walkedFrom, walkOf}
@@ -34,8 +33,8 @@ element-copy-out-view c = omega (arith, unbroken _ (c .before .pre) .made16)
 all-closed-requires : tie.Need-all-closed-requires
 all-closed-requires c κs = search needs
 
-all-held-requires : tie.Need-all-held-requires
-all-held-requires c κs = search needs
+all-kept-requires : tie.Need-all-kept-requires
+all-kept-requires c κs = search needs
 
 all-causes-requires : tie.Need-all-causes-requires
 all-causes-requires c κs = search needs
@@ -59,9 +58,9 @@ returns-2 : tie.Need-returns-2
 unfolding walkOf walkedFrom
 returns-2 c =
     let start = c .before .before .before .before .before .before .before .before .before .before .before .before .before .before .before .before .before .before .before .before .before in
-    let long = simp length-map at (start .good .0 .1 .1 .1 .1 .1 .1 .1 .1 .1 .1 .1 .1 .1 .1 .1 .1 .1 .0 .1 .0 .1) in
-    let past = taken (start .args .t1) long (c .before .before .before .before .before .before .before .before .before .before .before .before .all-closed .ensures) (c .before .before .before .before .before .before .before .before .before .before .before .all-held .ensures) (c .before .before .before .before .before .before .before .before .before .before .all-causes .ensures) (c .before .before .before .before .before .before .before .before .before .all-links .ensures) (c .before .before .before .before .before .before .before .before .all-viewlinks .ensures) in
-    let low : start .args .key < 16 = omega (arith, unbroken _ (start .pre) .made16, c .before .before .before .before .before .before .before .before .before .before .before .before .before .before .before .before .before .before .before .before .if1 .left) in
+    let whole = unbroken _ (start .pre) in
+    let past = taken (start .args .t1) whole (c .before .before .before .before .before .before .before .before .before .before .before .before .all-closed .ensures) (c .before .before .before .before .before .before .before .before .before .before .before .all-kept .ensures) (c .before .before .before .before .before .before .before .before .before .before .all-causes .ensures) (c .before .before .before .before .before .before .before .before .before .all-links .ensures) (c .before .before .before .before .before .before .before .before .all-viewlinks .ensures) in
+    let low : start .args .key < 16 = omega (arith, whole .made16, c .before .before .before .before .before .before .before .before .before .before .before .before .before .before .before .before .before .before .before .before .if1 .left) in
     let e = c .before .visit .ensures .1 (start .args .t1) past 16 low in
     simp (start .pre, lt-leb _ _ (c .before .before .before .before .before .before .before .before .before .before .before .before .before .before .before .before .before .before .before .before .if1 .left), add-zero, c .answer .ensures, e, c .before .before .link .ensures)
 
@@ -75,7 +74,7 @@ walk-unbroken-spec =
     mul-view-2
     element-copy-out-view
     all-closed-requires
-    all-held-requires
+    all-kept-requires
     all-causes-requires
     all-links-requires
     all-viewlinks-requires

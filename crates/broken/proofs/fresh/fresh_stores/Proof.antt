@@ -3,7 +3,7 @@ use Prim.Native.Nat.{_-_}
 use native.Mathlib.Omega.{arith}
 use borrow.Author.Needs.{needs}
 use lib.Dec.{ltb}
-use Rattle.protocol.specs.Setup.{freshStore}
+use Rattle.protocol.specs.Stores.{freshStore}
 use Rattle.unbroken.proofs.Fill.{Filled, fill-start, fill-step, fill-end}
 use Rattle.broken.proofs.fresh.fresh_stores.Statement.{statement}
 use Rattle.broken.proofs.fresh.fresh_stores.Tie as tie

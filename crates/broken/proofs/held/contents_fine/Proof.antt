@@ -1,24 +1,26 @@
--- Blank, or held and the view's record. Assumes nothing.
-use mathlib.Core.Path.{sym, _∙_}
+-- The number that is due, and no other, is that of contents that are fine. Assumes nothing.
+use Prim.Native.Nat.{_<_}
+use mathlib.Core.Path.{ap₂, _∙_}
 use borrow.Author.Needs.{needs}
-use Rattle.broken.proofs.Packed.{packed-none, packed-some}
+use lib.Dec.{eqb}
+use Rattle.broken.proofs.Packed.{packed-fine}
 use Rattle.broken.proofs.held.contents_fine.Statement.{statement}
 use Rattle.broken.proofs.held.contents_fine.Tie as tie
 
 packed-requires : tie.Need-packed-requires
 packed-requires c κs = search needs
 
+due-requires : tie.Need-due-requires
+due-requires c κs = search needs
+
 returns : tie.Need-returns
-returns c = packed-none (c .before .before .args .c) _ (sym (c .before .packed .ensures) ∙ c .if1 .taken)
-
-same-contents-requires : tie.Need-same-contents-requires
-same-contents-requires c κs = search needs
-
-returns-2 : tie.Need-returns-2
-returns-2 c = simp (c .before .if2 .taken, c .same-contents .ensures)
-
-returns-3 : tie.Need-returns-3
-returns-3 c = packed-some (c .before .before .before .args .c) _ (λ e. c .before .if1 .left (c .before .before .packed .ensures ∙ e)) (c .if2 .left)
+returns c =
+    let start = c .before .before .args in
+    let asserter : start .c .asserter < 256 = search needs in
+    let causes : start .c .causes < 65536 = search needs in
+    let actor : start .w .actor < 256 = search needs in
+    let own : start .w .causes < 65536 = search needs in
+    ap₂ eqb (c .before .packed .ensures) (c .due .ensures) ∙ packed-fine (start .has) (start .w) (start .c) asserter causes actor own
 
 pub contents-fine-spec : {M : Type 1} → statement M
-contents-fine-spec = tie.close (tie.spec packed-requires returns same-contents-requires returns-2 returns-3)
+contents-fine-spec = tie.close (tie.spec packed-requires due-requires returns)

@@ -5,16 +5,16 @@ use native.Mathlib.Omega.{arith}
 use borrow.Author.Needs.{needs}
 use borrow.Author.Tests.{not-true, not-false}
 use Rattle.protocol.specs.Slots.{noLinks}
-use Rattle.protocol.specs.Broken.{heldLinksFine}
 use Rattle.unbroken.proofs.Pass.{Passed, pass-start, pass-step, pass-stop, pass-end}
+use Rattle.broken.specs.Sets.{linksIn}
 use Rattle.broken.proofs.held.held_links_fine.Statement.{statement}
 use Rattle.broken.proofs.held.held_links_fine.Tie as tie
 
 abbrev Inv-loop : tie.InvT-loop
-Inv-loop contents views links at₀ at = Passed noLinks (heldLinksFine contents views) links 128 at
+Inv-loop sets views links at₀ at = Passed noLinks (linksIn sets views) links 128 at
 
 abbrev μ-loop : tie.MeasureT-loop
-μ-loop contents views links at₀ at = 128 - at
+μ-loop sets views links at₀ at = 128 - at
 
 loop-holds : tie.Need-loop-holds Inv-loop μ-loop
 loop-holds c = pass-start _ _ _ _ (search needs)
@@ -28,35 +28,31 @@ mul-w-2 c = omega arith
 array-copy-out-w : tie.Need-array-copy-out-w Inv-loop μ-loop
 array-copy-out-w c = omega arith
 
-mul-c : tie.Need-mul-c Inv-loop μ-loop
-mul-c c = omega arith
-
-mul-c-2 : tie.Need-mul-c-2 Inv-loop μ-loop
-mul-c-2 c = omega arith
-
-add-c : tie.Need-add-c Inv-loop μ-loop
-add-c c = omega arith
-
-mul-c-3 : tie.Need-mul-c-3 Inv-loop μ-loop
-mul-c-3 c = omega arith
-
-array-copy-out-c : tie.Need-array-copy-out-c Inv-loop μ-loop
-array-copy-out-c c = omega arith
-
 mul-l : tie.Need-mul-l Inv-loop μ-loop
 mul-l c = omega arith
 
 array-copy-out-l : tie.Need-array-copy-out-l Inv-loop μ-loop
 array-copy-out-l c = omega arith
 
+mul-is-in : tie.Need-mul-is-in Inv-loop μ-loop
+mul-is-in c = omega arith
+
+array-read-is-in : tie.Need-array-read-is-in Inv-loop μ-loop
+array-read-is-in c = omega arith
+
+mul-is-in-2 : tie.Need-mul-is-in-2 Inv-loop μ-loop
+mul-is-in-2 c = omega arith
+
+is-in-requires : tie.Need-is-in-requires Inv-loop μ-loop
+is-in-requires c κs = search needs
+
 sender-links-fine-requires : tie.Need-sender-links-fine-requires Inv-loop μ-loop
 sender-links-fine-requires c κs = search needs
 
 returns : tie.Need-returns Inv-loop μ-loop
-unfolding heldLinksFine
 returns c =
     pass-stop (c .before .before .before .before .before .before .loop .inv) (c .before .before .before .before .before .loop-test .taken)
-    (sym (c .before .sender-links-fine .ensures) ∙ not-true _ (c .if1 .taken))
+    (sym (simp (c .before .before .is-in .ensures) at (c .before .sender-links-fine .ensures)) ∙ not-true _ (c .if1 .taken))
 
 add-at : tie.Need-add-at Inv-loop μ-loop
 add-at c = omega arith
@@ -65,16 +61,14 @@ loop-less : tie.Need-loop-less Inv-loop μ-loop
 loop-less c = omega arith
 
 loop-again : tie.Need-loop-again Inv-loop μ-loop
-unfolding heldLinksFine
 loop-again c =
     pass-step (c .before .before .before .before .before .before .loop .inv) (c .before .before .before .before .before .loop-test .taken)
-    (sym (c .before .sender-links-fine .ensures) ∙ not-false _ (c .if1 .left))
+    (sym (simp (c .before .before .is-in .ensures) at (c .before .sender-links-fine .ensures)) ∙ not-false _ (c .if1 .left))
 
 returns-2 : tie.Need-returns-2 Inv-loop μ-loop
 returns-2 c = pass-end (c .before .loop .inv) (c .loop-test .left)
 
 pub held-links-fine-spec : {M : Type 1} → statement M
 held-links-fine-spec =
-    tie.close (tie.spec Inv-loop μ-loop loop-holds mul-w mul-w-2 array-copy-out-w mul-c mul-c-2 add-c mul-c-3
-    array-copy-out-c mul-l array-copy-out-l sender-links-fine-requires returns add-at loop-less loop-again
-    returns-2)
+    tie.close (tie.spec Inv-loop μ-loop loop-holds mul-w mul-w-2 array-copy-out-w mul-l array-copy-out-l mul-is-in array-read-is-in mul-is-in-2 is-in-requires
+    sender-links-fine-requires returns add-at loop-less loop-again returns-2)

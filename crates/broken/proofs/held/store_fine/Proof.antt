@@ -1,27 +1,33 @@
--- A store that is there has links within the rooms; one that isn't is down and has none. Assumes nothing.
-use mathlib.Core.Path.{_≡_}
+-- Blank if it is not there, its notes, and its two rows of viewlinks. Assumes nothing.
 use borrow.Author.Needs.{needs}
-use borrow.Author.Tests.{eq-eqb, lt-ltb, le-ltb}
-use lib.ListN.{length}
 use Rattle.broken.proofs.held.store_fine.Statement.{statement}
 use Rattle.broken.proofs.held.store_fine.Tie as tie
 
-links-within-requires : tie.Need-links-within-requires
-links-within-requires c κs = search needs
+there-or-blank-requires : tie.Need-there-or-blank-requires
+there-or-blank-requires c κs = search needs
 
-returns : tie.Need-returns
-returns c = let long : length (c .before .before .before .args .s .viewlinks) ≡ 32 = search needs in
-    simp (eq-eqb _ _ long, lt-ltb _ _ (c .before .if1 .taken), c .links-within .ensures)
-
-blank-row-requires : tie.Need-blank-row-requires
-blank-row-requires c κs = search needs
+notes-fine-requires : tie.Need-notes-fine-requires
+notes-fine-requires c κs = search needs
 
 both-requires : tie.Need-both-requires
 both-requires c κs = search needs
 
-returns-2 : tie.Need-returns-2
-returns-2 c = let long : length (c .before .before .before .before .before .args .s .viewlinks) ≡ 32 = search needs in
-    simp (eq-eqb _ _ long, le-ltb _ _ (c .before .before .before .if1 .left), c .both .ensures, c .before .blank-row .ensures)
+notes-fine-requires-2 : tie.Need-notes-fine-requires-2
+notes-fine-requires-2 c κs = search needs
+
+both-requires-2 : tie.Need-both-requires-2
+both-requires-2 c κs = search needs
+
+rows-within-requires : tie.Need-rows-within-requires
+rows-within-requires c κs = search needs
+
+both-requires-3 : tie.Need-both-requires-3
+both-requires-3 c κs = search needs
+
+returns : tie.Need-returns
+returns c = cc
 
 pub store-fine-spec : {M : Type 1} → statement M
-store-fine-spec = tie.close (tie.spec links-within-requires returns blank-row-requires both-requires returns-2)
+store-fine-spec =
+    tie.close (tie.spec there-or-blank-requires notes-fine-requires both-requires notes-fine-requires-2 both-requires-2 rows-within-requires
+    both-requires-3 returns)

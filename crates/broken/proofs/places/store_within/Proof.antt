@@ -8,7 +8,8 @@ use lib.Dec.{leb}
 use lib.ListN.{getD, replicate, getD-replicate}
 use Rattle.protocol.specs.Words.{pick}
 use Rattle.broken.specs.Rooms.{withinRoom}
-use Rattle.broken.proofs.Rooms.{below-same, row-same}
+use Rattle.broken.proofs.Rooms.{row-same}
+use Rattle.broken.proofs.Same.{below-same}
 use Rattle.broken.proofs.places.store_within.Statement.{statement}
 use Rattle.broken.proofs.places.store_within.Tie as tie
 

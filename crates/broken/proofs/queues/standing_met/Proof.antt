@@ -7,14 +7,15 @@ use borrow.Author.Needs.{needs}
 use borrow.Author.Tests.{not-true, not-false}
 use lib.ListN.{length, take, getD}
 use lib.Seq.{length-take-le, getD-take}
-use Rattle.broken.specs.Marks.{mark, placeMet}
+use Rattle.protocol.specs.Words.{joined}
+use Rattle.broken.specs.Marks.{placeMet}
 use Rattle.broken.proofs.Meet.{Meeting, meet-start, meet-step, meet-stop, meet-end, meet-marks}
 use Rattle.broken.proofs.Slots.{place-slot, place-below}
 use Rattle.broken.proofs.queues.standing_met.Statement.{statement}
 use Rattle.broken.proofs.queues.standing_met.Tie as tie
 
 abbrev Inv-loop : tie.InvT-loop
-Inv-loop a len before views standing marks₀ i₀ marks i = Meeting 0 (placeMet views a) mark (take len standing) before len i marks
+Inv-loop a len before views standing marks₀ i₀ marks i = Meeting 0 (placeMet views a) joined (take len standing) before len i marks
 
 abbrev μ-loop : tie.MeasureT-loop
 μ-loop a len before views standing marks₀ i₀ marks i = len - i
@@ -67,7 +68,7 @@ loop-again c =
     meet-step (turn .inv) here
     (ap (placeMet (start .t1) (start .a) (turn .marks) (turn .i)) same
     ∙ (place-slot (start .t1) (turn .marks) (start .a) (turn .i) (getD (start .t4) (turn .i) 0) (search needs) (c .before .before .place-met .ensures) ∙ not-false _ (c .before .if1 .left)))
-    (c .marked .ensures ∙ sym (ap (mark (turn .marks)) same))
+    (c .marked .ensures ∙ sym (ap (joined (turn .marks)) same))
 
 returns-2 : tie.Need-returns-2 Inv-loop μ-loop
 returns-2 c = (meet-end (c .before .loop .inv) (c .loop-test .left), λ e. meet-marks (c .before .loop .inv) (c .loop-test .left))

@@ -31,31 +31,48 @@ returns-3 c =
     let e = rw (c .before .before .before .before .before .before .view-of .ensures, c .before .before .before .before .before .before .before .before .head-of .ensures) at (c .if3 .taken) in
     simp (ne-eqb _ _ d, ne-eqb _ _ d₂, eq-eqb _ _ e)
 
+store-of-requires : tie.Need-store-of-requires
+store-of-requires c κs =
+    let viewed = c .before .before .before .before .before .before .before .before in
+    let start = viewed .before .before .before .before in
+    let h = start .pre .0 .headIn32 (start .args .actor) (omega arith) in
+    rw (viewed .view-of .ensures, viewed .before .before .head-of .ensures) (start .pre .0 .storeIn8 _ h)
+
 array-read-awaiting-step : tie.Need-array-read-awaiting-step
 array-read-awaiting-step c = search needs
 
 copies-requires : tie.Need-copies-requires
 copies-requires c κs =
-    let start = c .before .before .before .before .before .before .before .before .before .before .before .before .before in
+    let viewed = c .before .before .before .before .before .before .before .before .before .before .before in
+    let start = viewed .before .before .before .before in
     let h = start .pre .0 .headIn32 (start .args .actor) (omega arith) in
-    rw (c .before .before .before .before .before .before .before .before .before .view-of .ensures, c .before .before .before .before .before .before .before .before .before .before .before .head-of .ensures) (start .pre .0 .storeIn8 _ h, h)
+    rw (viewed .view-of .ensures, viewed .before .before .head-of .ensures) (start .pre .0 .storeIn8 _ h, h)
+
+is-owed-requires : tie.Need-is-owed-requires
+is-owed-requires c κs =
+    let viewed = c .before .before .before .before .before .before .before .before .before .before .before .before in
+    let start = viewed .before .before .before .before in
+    let h = start .pre .0 .headIn32 (start .args .actor) (omega arith) in
+    rw (viewed .before .before .head-of .ensures) h
 
 copies-requires-2 : tie.Need-copies-requires-2
 copies-requires-2 c κs =
-    let start = c .before .before .before .before .before .before .before .before .before .before .before .before .before .before in
+    let viewed = c .before .before .before .before .before .before .before .before .before .before .before .before .before in
+    let start = viewed .before .before .before .before in
     let h = start .pre .0 .headIn32 (start .args .actor) (omega arith) in
-    rw (c .before .before .before .before .before .before .before .before .before .before .view-of .ensures, c .before .before .before .before .before .before .before .before .before .before .before .before .head-of .ensures) (start .pre .0 .storeIn8 _ h, h)
+    rw (viewed .view-of .ensures, viewed .before .before .head-of .ensures) (start .pre .0 .storeIn8 _ h, h)
 
 awaiting-step-requires : tie.Need-awaiting-step-requires
-awaiting-step-requires c κs = search needs
+awaiting-step-requires c κs = c .before .before .before .before .before .before .before .before .before .before .before .before .before .before .before .before .before .before .pre .0 .stores8
 
 returns-4 : tie.Need-returns-4
 unfolding jobStep
 returns-4 c =
-    let d = rw (c .before .before .before .before .before .before .before .before .before .before .before .before .view-of .ensures, c .before .before .before .before .before .before .before .before .before .before .before .before .before .before .head-of .ensures) at (c .before .before .before .before .before .before .before .before .before .before .if1 .left) in
-    let d₂ = rw (c .before .before .before .before .before .before .before .before .before .before .before .before .view-of .ensures, c .before .before .before .before .before .before .before .before .before .before .before .before .before .before .head-of .ensures) at (c .before .before .before .before .before .before .before .before .if2 .left) in
-    let d₃ = rw (c .before .before .before .before .before .before .before .before .before .before .before .before .view-of .ensures, c .before .before .before .before .before .before .before .before .before .before .before .before .before .before .head-of .ensures) at (c .before .before .before .before .before .before .if3 .left) in
-    rw (c .awaiting-step .ensures, c .before .copies2 .ensures, c .before .before .copies .ensures, c .before .before .before .before .before .before .before .before .before .before .before .before .view-of .ensures, c .before .before .before .before .before .before .before .before .before .before .before .before .before .before .head-of .ensures) (simp (ne-eqb _ _ d, ne-eqb _ _ d₂, ne-eqb _ _ d₃))
+    let viewed = c .before .before .before .before .before .before .before .before .before .before .before .before .before .before .before in
+    let d = rw (viewed .view-of .ensures, viewed .before .before .head-of .ensures) at (c .before .before .before .before .before .before .before .before .before .before .before .before .before .if1 .left) in
+    let d₂ = rw (viewed .view-of .ensures, viewed .before .before .head-of .ensures) at (c .before .before .before .before .before .before .before .before .before .before .before .if2 .left) in
+    let d₃ = rw (viewed .view-of .ensures, viewed .before .before .head-of .ensures) at (c .before .before .before .before .before .before .before .before .before .if3 .left) in
+    rw (c .awaiting-step .ensures, c .before .copies2 .ensures, c .before .before .is-owed .ensures, c .before .before .before .copies .ensures, c .before .before .before .before .before .before .store-of .ensures, viewed .view-of .ensures, viewed .before .before .head-of .ensures) (simp (ne-eqb _ _ d, ne-eqb _ _ d₂, ne-eqb _ _ d₃))
 
 pub job-step-spec : {M : Type 1} → statement M
 job-step-spec =
@@ -66,8 +83,10 @@ job-step-spec =
     returns
     returns-2
     returns-3
+    store-of-requires
     array-read-awaiting-step
     copies-requires
+    is-owed-requires
     copies-requires-2
     awaiting-step-requires
     returns-4)

@@ -21,15 +21,15 @@ mul-w c = search needs
 element-copy-out-w : tie.Need-element-copy-out-w
 element-copy-out-w c = search needs
 
-held-requires : tie.Need-held-requires
-held-requires c κs = search needs
+kept-requires : tie.Need-kept-requires
+kept-requires c κs = search needs
 
 line-requires : tie.Need-line-requires
 line-requires c κs = search needs
 
 returns-2 : tie.Need-returns-2
 unfolding viewLine
-returns-2 c = search (tests, c .line .ensures, c .before .held .ensures)
+returns-2 c = search (tests, c .line .ensures, c .before .kept .ensures)
 
 pub view-spec : {M : Type 1} → statement M
 view-spec =
@@ -40,6 +40,6 @@ view-spec =
     returns
     mul-w
     element-copy-out-w
-    held-requires
+    kept-requires
     line-requires
     returns-2)

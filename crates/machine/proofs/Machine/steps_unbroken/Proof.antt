@@ -1,20 +1,30 @@
 -- `steps_unbroken` meets its contract: the loop takes the steps that are left from here as the definition takes all from the
 -- start. The slots of each are found as the definitions find them, each within its array, and what the rule gives is what is
--- written there. The measure is what is left. Assumes nothing.
-use Prim.Native.Nat.{_-_, _<_}
-use mathlib.Core.Path.{_≡_, sym, _∙_}
+-- written there, and at the other places of the store. The measure is what is left. Assumes nothing.
+use Prim.Native.Nat.{ℕ, _-_, _<_}
+use mathlib.Core.Path.{_≡_, sym, ap, _∙_}
+use mathlib.Core.List.{List}
 use mathlib.Core.Bool.{true, false}
 use mathlib.Core.Logic.{⊎-elim}
 use native.Mathlib.Omega.{arith}
 use borrow.Author.Needs.{needs}
-use lib.ListN.{getD}
+use lib.ListN.{length, getD, set, length-set}
 use Rattle.unbroken.specs.Bounds.{Bounds}
-use Rattle.unbroken.proofs.Laws.{bounds}
+use Rattle.unbroken.specs.Unbroken.{Unbroken}
+use Rattle.unbroken.proofs.Laws.{unbroken, bounds}
+use Rattle.protocol.specs.Slots.{place, shelf}
+use Rattle.protocol.specs.Setup.{answered}
+use Rattle.protocol.specs.Step.{ruleOf}
+use Rattle.protocol.specs.declared.Contents.{Contents}
+use Rattle.protocol.specs.declared.Links.{Links}
+use Rattle.protocol.specs.declared.Step.{Step}
+use Rattle.rules.specs.declared.slots.Slots.{Slots}
 use Rattle.protocol.specs.declared.State.{State}
 use Rattle.rules.specs.declared.about.About.{About}
 use Rattle.rules.specs.About.{outsideAbout}
 use Rattle.protocol.specs.declared.Step.the-variants.{Send}
-use Rattle.machine.proofs.Found.{Found, about-refuses, looked, stands, written, fits}
+use Rattle.machine.proofs.Found.{Found, about-refuses, looked, stands, placed, written, fits}
+use Rattle.machine.proofs.Spread.{sent-as, contentsAfter, linksAfter, contents-none, contents-some, links-none, links-some}
 use Rattle.rules.proofs.Inside.{actor-low, view-low, store-low, other-low}
 use Rattle.machine.proofs.Taking.{Taking, take-start, take-step, take-end}
 use Rattle.machine.proofs.Machine.steps_unbroken.Statement.{statement}
@@ -58,6 +68,10 @@ joined-at c = c .before .before .before .before .before .before .before .before 
 abbrev rule-at : tie.After-made-of Inv-loop μ-loop → tie.After-rule Inv-loop μ-loop
 rule-at c = c .before .before .before .before .before .before .before .before .before .before .before .before
 
+-- from where it is known whether the store loses contents, the way to where its slots were written
+abbrev made-at : tie.After-loses Inv-loop μ-loop → tie.After-made-of Inv-loop μ-loop
+made-at c = c .before .before .before .before .before .before .before .before .before
+
 -- where no number that the step is about lies outside: the machine, what the step is about, and that
 abbrev machine-in : tie.Else1 Inv-loop μ-loop → State
 machine-in c = c .before .before .before .before .before .loop .m
@@ -82,9 +96,86 @@ found c =
       looked = ⊎-elim (λ w. looked (turn-at c .loop .m) (about-at c .about-of .result) (view-at c .view-of .result) true (w .0 .taken) (w .3 ∙ w .2 .ensures)) (λ w. looked (turn-at c .loop .m) (about-at c .about-of .result) (view-at c .view-of .result) false (w .0 .left) (w .1 ∙ c .before .no-past .ensures)) (c .if2 .came);
     }
 
--- where what the rule gives is written, each of them is within its array
-within : (c : tie.After-made-of Inv-loop μ-loop) → (view-at (joined-at c) .view-of .result < 32) × (actor-at (joined-at c) .actor-of .result < 8) × (store-at (joined-at c) .store-of .result < 8)
+-- where what the rule gives is written: the machine, the step, its actor, view and store, the place and the slots
+abbrev machine-at : tie.After-made-of Inv-loop μ-loop → State
+machine-at c = turn-at (joined-at c) .loop .m
+
+abbrev step-at : tie.After-made-of Inv-loop μ-loop → Step
+step-at c = getD (start-at (joined-at c) .args .t2) (turn-at (joined-at c) .loop .i) (Send 0 0 0 0 0)
+
+abbrev a : tie.After-made-of Inv-loop μ-loop → ℕ
+a c = actor-at (joined-at c) .actor-of .result
+
+abbrev v : tie.After-made-of Inv-loop μ-loop → ℕ
+v c = view-at (joined-at c) .view-of .result
+
+abbrev p : tie.After-made-of Inv-loop μ-loop → ℕ
+p c = store-at (joined-at c) .store-of .result
+
+abbrev slots-at : tie.After-made-of Inv-loop μ-loop → Slots
+slots-at c = rule-at c .rule .result .slots
+
+-- each of them is within its array
+within : (c : tie.After-made-of Inv-loop μ-loop) → (v c < 32) × (a c < 8) × (p c < 8)
 within c = (view-at (joined-at c) .view-of .ensures .1, actor-at (joined-at c) .actor-of .ensures .1, store-at (joined-at c) .store-of .ensures .1)
+
+-- the machine isn't broken, so the copies in flight are as many as there are places
+whole-at : (c : tie.After-made-of Inv-loop μ-loop) → Unbroken (machine-at c)
+whole-at c = unbroken (machine-at c) (turn-at (joined-at c) .loop .inv .unbroken)
+
+acks-long : (c : tie.After-made-of Inv-loop μ-loop) → length (set (machine-at c .acks) (place (p c) (v c)) (slots-at c .acks)) ≡ 256
+acks-long c = length-set (machine-at c .acks) (place (p c) (v c)) (slots-at c .acks) ∙ whole-at c .sized .acks
+
+uacks-long : (c : tie.After-made-of Inv-loop μ-loop) → length (set (machine-at c .uacks) (place (p c) (v c)) (slots-at c .uacks)) ≡ 256
+uacks-long c = length-set (machine-at c .uacks) (place (p c) (v c)) (slots-at c .uacks) ∙ whole-at c .sized .uacks
+
+-- the acks and uacks that are sent
+abbrev acks-at : tie.After-loses Inv-loop μ-loop → tie.After-send-owed Inv-loop μ-loop
+acks-at c = c .before .before .before .before .before .before
+
+abbrev uacks-at : tie.After-loses Inv-loop μ-loop → tie.After-send-owed2 Inv-loop μ-loop
+uacks-at c = c .before .before .before
+
+-- what the rule gives is written, once contents and cause links are as it asks for
+done : (c : tie.After-loses Inv-loop μ-loop) {cs : List Contents} {ls : List Links} → let n = made-at c in
+    let m = machine-at n in
+    let x = slots-at n in
+    cs ≡ contentsAfter m (v n) (p n) x (x .sweeps) → ls ≡ linksAfter m (v n) (p n) x (x .sweeps)
+    → answered (rule-at n .rule .result .answer) (placed m (a n) (v n) (p n) x (n .made-of .result) (acks-at c .send-owed .last .0) (uacks-at c .send-owed2 .last .0) cs ls)
+    ≡ ruleOf m (step-at n)
+done c e f =
+    let n = made-at c in
+    let m = machine-at n in
+    let x = slots-at n in
+    let j = joined-at n in
+    written (found j) (rule-at n .rule .result) (rule-at n .rule .ensures _ (stands (found j) (turn-at j .loop .inv .unbroken) (inside (inside-at j))))
+    (record {
+      made-is = n .made-of .ensures;
+      acks-are = sent-as (x .sends) (shelf m (p n) .acksowed) (p n) (set (m .acks) (place (p n) (v n)) (x .acks)) (acks-long n) (acks-at c .before .due-of .ensures) (acks-at c .send-owed .ensures);
+      uacks-are = sent-as (x .sends) (shelf m (p n) .uacksowed) (p n) (set (m .uacks) (place (p n) (v n)) (x .uacks)) (uacks-long n) (uacks-at c .before .due-of2 .ensures) (uacks-at c .send-owed2 .ensures);
+      contents-are = e;
+      links-are = f;
+    })
+
+-- .. which they are, whether the store loses contents or not
+stepped : (c : tie.Joined3 Inv-loop μ-loop) → let n = made-at (c .before) in answered (rule-at n .rule .result .answer) (c .if3 .m) ≡ ruleOf (machine-at n) (step-at n)
+stepped c =
+    let n = made-at (c .before) in
+    let m = machine-at n in
+    let u = whole-at n in
+    let x = slots-at n in
+    let low = within n .2 in
+    let stood = n .before .before .contents-of .ensures in
+    let linked = n .before .links-of .ensures in
+    let told = sym (c .before .loses .ensures) in
+    ⊎-elim
+    (λ w.
+    ap (answered (rule-at n .rule .result .answer)) (w .5)
+    ∙ done (c .before) (contents-some m u (v n) (p n) low x stood (told ∙ w .0 .taken) (w .2 .ensures)) (links-some m u (v n) (p n) low x linked (told ∙ w .0 .taken) (w .4 .ensures)))
+    (λ w.
+    ap (answered (rule-at n .rule .result .answer)) (w .1)
+    ∙ done (c .before) (contents-none m u (v n) (p n) low x stood (told ∙ w .0 .left)) (links-none m u (v n) (p n) low x linked (told ∙ w .0 .left)))
+    (c .if3 .came)
 
 loop-holds : tie.Need-loop-holds Inv-loop μ-loop
 loop-holds c = take-start (c .before .before .pre .0) (c .before .before .pre .1) (search needs) (c .before .before .pre .2) (c .before .before .pre .3)
@@ -205,23 +296,23 @@ mul-other c = search needs
 element-copy-out-other : tie.Need-element-copy-out-other Inv-loop μ-loop
 element-copy-out-other c = search needs
 
-mul-shelf : tie.Need-mul-shelf Inv-loop μ-loop
-mul-shelf c = search needs
+mul-store : tie.Need-mul-store Inv-loop μ-loop
+mul-store c = search needs
 
-element-copy-out-shelf : tie.Need-element-copy-out-shelf Inv-loop μ-loop
-element-copy-out-shelf c = search needs
+element-copy-out-store : tie.Need-element-copy-out-store Inv-loop μ-loop
+element-copy-out-store c = search needs
 
-mul-contents : tie.Need-mul-contents Inv-loop μ-loop
-mul-contents c = search needs
+mul-held : tie.Need-mul-held Inv-loop μ-loop
+mul-held c = search needs
 
-element-copy-out-contents : tie.Need-element-copy-out-contents Inv-loop μ-loop
-element-copy-out-contents c = search needs
+element-copy-out-held : tie.Need-element-copy-out-held Inv-loop μ-loop
+element-copy-out-held c = search needs
 
-mul-links : tie.Need-mul-links Inv-loop μ-loop
-mul-links c = search needs
+mul-linked : tie.Need-mul-linked Inv-loop μ-loop
+mul-linked c = search needs
 
-element-copy-out-links : tie.Need-element-copy-out-links Inv-loop μ-loop
-element-copy-out-links c = search needs
+element-copy-out-linked : tie.Need-element-copy-out-linked Inv-loop μ-loop
+element-copy-out-linked c = search needs
 
 no-past-requires : tie.Need-no-past-requires Inv-loop μ-loop
 no-past-requires c κs = search needs
@@ -232,32 +323,38 @@ look-back-requires c κs = search needs
 cast-m : tie.Need-cast-m Inv-loop μ-loop
 cast-m c = search needs
 
-element-copy-out-t53 : tie.Need-element-copy-out-t53 Inv-loop μ-loop
-element-copy-out-t53 c = search needs
+element-copy-out-t58 : tie.Need-element-copy-out-t58 Inv-loop μ-loop
+element-copy-out-t58 c = search needs
 
-element-copy-out-t51 : tie.Need-element-copy-out-t51 Inv-loop μ-loop
-element-copy-out-t51 c = search needs
+element-copy-out-t56 : tie.Need-element-copy-out-t56 Inv-loop μ-loop
+element-copy-out-t56 c = search needs
 
-cast-t68 : tie.Need-cast-t68 Inv-loop μ-loop
-cast-t68 c = search needs
+cast-t73 : tie.Need-cast-t73 Inv-loop μ-loop
+cast-t73 c = search needs
 
-element-copy-out-t97 : tie.Need-element-copy-out-t97 Inv-loop μ-loop
-element-copy-out-t97 c = other-low (machine-in (inside-at (c .before .before .before))) (bounds-in (inside-at (c .before .before .before))) (about-in (inside-at (c .before .before .before))) (inside (inside-at (c .before .before .before)))
+element-copy-out-t102 : tie.Need-element-copy-out-t102 Inv-loop μ-loop
+element-copy-out-t102 c = other-low (machine-in (inside-at (c .before .before .before))) (bounds-in (inside-at (c .before .before .before))) (about-in (inside-at (c .before .before .before))) (inside (inside-at (c .before .before .before)))
 
-element-copy-out-t101 : tie.Need-element-copy-out-t101 Inv-loop μ-loop
-element-copy-out-t101 c = search needs
+element-copy-out-t106 : tie.Need-element-copy-out-t106 Inv-loop μ-loop
+element-copy-out-t106 c = search needs
 
-element-copy-out-t104 : tie.Need-element-copy-out-t104 Inv-loop μ-loop
-element-copy-out-t104 c = search needs
+element-copy-out-t109 : tie.Need-element-copy-out-t109 Inv-loop μ-loop
+element-copy-out-t109 c = search needs
 
-element-copy-out-t107 : tie.Need-element-copy-out-t107 Inv-loop μ-loop
-element-copy-out-t107 c = search needs
+element-copy-out-t112 : tie.Need-element-copy-out-t112 Inv-loop μ-loop
+element-copy-out-t112 c = search needs
 
 element-copy-out-made-of : tie.Need-element-copy-out-made-of Inv-loop μ-loop
 element-copy-out-made-of c = search needs
 
 rule-requires : tie.Need-rule-requires Inv-loop μ-loop
 rule-requires c κs = fits (found ((c .before .before .before .before .before .before .before .before))) (bounds _ (turn-at (c .before .before .before .before .before .before .before .before) .loop .inv .unbroken)) (inside (inside-at (c .before .before .before .before .before .before .before .before))) (view-at (c .before .before .before .before .before .before .before .before) .view-of .ensures .1) (actor-at (c .before .before .before .before .before .before .before .before) .actor-of .ensures .1) (store-at (c .before .before .before .before .before .before .before .before) .store-of .ensures .1)
+
+contents-of-requires : tie.Need-contents-of-requires Inv-loop μ-loop
+contents-of-requires c κs = search needs
+
+links-of-requires : tie.Need-links-of-requires Inv-loop μ-loop
+links-of-requires c κs = search needs
 
 made-of-requires : tie.Need-made-of-requires Inv-loop μ-loop
 made-of-requires c κs = search needs
@@ -304,8 +401,8 @@ mul-other-2 c = omega (arith, within c .0, within c .1, within c .2)
 element-set-from-other : tie.Need-element-set-from-other Inv-loop μ-loop
 element-set-from-other c = omega (arith, within c .0, within c .1, within c .2)
 
-mul-shelf-2 : tie.Need-mul-shelf-2 Inv-loop μ-loop
-mul-shelf-2 c = omega (arith, within c .0, within c .1, within c .2)
+mul-shelf : tie.Need-mul-shelf Inv-loop μ-loop
+mul-shelf c = omega (arith, within c .0, within c .1, within c .2)
 
 element-set-from-shelf : tie.Need-element-set-from-shelf Inv-loop μ-loop
 element-set-from-shelf c = omega (arith, within c .0, within c .1, within c .2)
@@ -322,41 +419,62 @@ element-write-m-3 c = omega (arith, within c .0, within c .1, within c .2)
 element-write-m-4 : tie.Need-element-write-m-4 Inv-loop μ-loop
 element-write-m-4 c = omega (arith, within c .0, within c .1, within c .2)
 
-mul-contents-2 : tie.Need-mul-contents-2 Inv-loop μ-loop
-mul-contents-2 c = omega (arith, within c .0, within c .1, within c .2)
+mul-contents : tie.Need-mul-contents Inv-loop μ-loop
+mul-contents c = omega (arith, within c .0, within c .1, within c .2)
 
 element-set-from-contents : tie.Need-element-set-from-contents Inv-loop μ-loop
 element-set-from-contents c = omega (arith, within c .0, within c .1, within c .2)
 
-mul-links-2 : tie.Need-mul-links-2 Inv-loop μ-loop
-mul-links-2 c = omega (arith, within c .0, within c .1, within c .2)
+mul-links : tie.Need-mul-links Inv-loop μ-loop
+mul-links c = omega (arith, within c .0, within c .1, within c .2)
 
 element-set-from-links : tie.Need-element-set-from-links Inv-loop μ-loop
 element-set-from-links c = omega (arith, within c .0, within c .1, within c .2)
 
+due-of-requires : tie.Need-due-of-requires Inv-loop μ-loop
+due-of-requires c κs = search needs
+
+send-owed-requires : tie.Need-send-owed-requires Inv-loop μ-loop
+send-owed-requires c κs = (within (c .before .before) .2, acks-long (c .before .before))
+
+due-of-requires-2 : tie.Need-due-of-requires-2 Inv-loop μ-loop
+due-of-requires-2 c κs = search needs
+
+send-owed-requires-2 : tie.Need-send-owed-requires-2 Inv-loop μ-loop
+send-owed-requires-2 c κs = (within (c .before .before .before .before .before) .2, uacks-long (c .before .before .before .before .before))
+
+loses-requires : tie.Need-loses-requires Inv-loop μ-loop
+loses-requires c κs = search needs
+
+swept-contents-requires : tie.Need-swept-contents-requires Inv-loop μ-loop
+swept-contents-requires c κs = within (made-at (c .before .before)) .2
+
+swept-links-requires : tie.Need-swept-links-requires Inv-loop μ-loop
+swept-links-requires c κs = within (made-at (c .before .before .before .before)) .2
+
 add-room-2 : tie.Need-add-room-2 Inv-loop μ-loop
-add-room-2 c = omega (arith, start-at (joined-at c) .good .1 .1 .1 .0 .0, turn-at (joined-at c) .loop .inv .room, turn-at (joined-at c) .loop .inv .long, test-at (joined-at c) .loop-test .taken)
+add-room-2 c = let d = joined-at (made-at (c .before)) in omega (arith, start-at d .good .1 .1 .1 .0 .0, turn-at d .loop .inv .room, turn-at d .loop .inv .long, test-at d .loop-test .taken)
 
 slice-write-room-2 : tie.Need-slice-write-room-2 Inv-loop μ-loop
-slice-write-room-2 c = omega (arith, turn-at (joined-at c) .loop .inv .room, test-at (joined-at c) .loop-test .taken)
+slice-write-room-2 c = let d = joined-at (made-at (c .before)) in omega (arith, turn-at d .loop .inv .room, test-at d .loop-test .taken)
 
 add-i-2 : tie.Need-add-i-2 Inv-loop μ-loop
-add-i-2 c = omega (arith, turn-at (joined-at c) .loop .inv .few, test-at (joined-at c) .loop-test .taken)
+add-i-2 c = let d = joined-at (made-at (c .before)) in omega (arith, turn-at d .loop .inv .few, test-at d .loop-test .taken)
 
 loop-less-2 : tie.Need-loop-less-2 Inv-loop μ-loop
-loop-less-2 c = omega (arith, test-at (joined-at c) .loop-test .taken)
+loop-less-2 c = let d = joined-at (made-at (c .before)) in omega (arith, test-at d .loop-test .taken)
 
 loop-again-2 : tie.Need-loop-again-2 Inv-loop μ-loop
-loop-again-2 c = rw (c .made-of .ensures) (take-step (turn-at (joined-at c) .loop .inv) (test-at (joined-at c) .loop-test .taken) _ (written (found (joined-at c)) (rule-at c .rule .result) (rule-at c .rule .ensures _ (stands (found (joined-at c)) (turn-at (joined-at c) .loop .inv .unbroken) (inside (inside-at (joined-at c)))))))
+loop-again-2 c = let d = joined-at (made-at (c .before)) in take-step (turn-at d .loop .inv) (test-at d .loop-test .taken) _ (stepped c)
 
-sub-t141 : tie.Need-sub-t141 Inv-loop μ-loop
-sub-t141 c = omega (arith, c .before .loop .inv .some)
+sub-t151 : tie.Need-sub-t151 Inv-loop μ-loop
+sub-t151 c = omega (arith, c .before .loop .inv .some)
 
-add-t142 : tie.Need-add-t142 Inv-loop μ-loop
-add-t142 c = omega (arith, c .before .before .before .before .good .1 .1 .1 .0 .0, c .before .loop .inv .room, c .before .loop .inv .long, c .before .loop .inv .some)
+add-t152 : tie.Need-add-t152 Inv-loop μ-loop
+add-t152 c = omega (arith, c .before .before .before .before .good .1 .1 .1 .0 .0, c .before .loop .inv .room, c .before .loop .inv .long, c .before .loop .inv .some)
 
-slice-read-t144 : tie.Need-slice-read-t144 Inv-loop μ-loop
-slice-read-t144 c = omega (arith, c .before .before .loop .inv .room, c .before .before .loop .inv .some)
+slice-read-t154 : tie.Need-slice-read-t154 Inv-loop μ-loop
+slice-read-t154 c = omega (arith, c .before .before .loop .inv .room, c .before .before .loop .inv .some)
 
 same-length : tie.Need-same-length Inv-loop μ-loop
 same-length c = c .before .before .loop .inv .long
@@ -408,24 +526,26 @@ steps-unbroken-spec =
     element-copy-out-facing
     mul-other
     element-copy-out-other
-    mul-shelf
-    element-copy-out-shelf
-    mul-contents
-    element-copy-out-contents
-    mul-links
-    element-copy-out-links
+    mul-store
+    element-copy-out-store
+    mul-held
+    element-copy-out-held
+    mul-linked
+    element-copy-out-linked
     no-past-requires
     look-back-requires
     cast-m
-    element-copy-out-t53
-    element-copy-out-t51
-    cast-t68
-    element-copy-out-t97
-    element-copy-out-t101
-    element-copy-out-t104
-    element-copy-out-t107
+    element-copy-out-t58
+    element-copy-out-t56
+    cast-t73
+    element-copy-out-t102
+    element-copy-out-t106
+    element-copy-out-t109
+    element-copy-out-t112
     element-copy-out-made-of
     rule-requires
+    contents-of-requires
+    links-of-requires
     made-of-requires
     mul-queue-2
     element-set-from-queue
@@ -441,23 +561,30 @@ steps-unbroken-spec =
     element-set-from-entry
     mul-other-2
     element-set-from-other
-    mul-shelf-2
+    mul-shelf
     element-set-from-shelf
     element-write-m
     element-write-m-2
     element-write-m-3
     element-write-m-4
-    mul-contents-2
+    mul-contents
     element-set-from-contents
-    mul-links-2
+    mul-links
     element-set-from-links
+    due-of-requires
+    send-owed-requires
+    due-of-requires-2
+    send-owed-requires-2
+    loses-requires
+    swept-contents-requires
+    swept-links-requires
     add-room-2
     slice-write-room-2
     add-i-2
     loop-less-2
     loop-again-2
-    sub-t141
-    add-t142
-    slice-read-t144
+    sub-t151
+    add-t152
+    slice-read-t154
     same-length
     returns)

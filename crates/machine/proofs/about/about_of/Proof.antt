@@ -101,6 +101,12 @@ enum-known-s-16 c = search needs
 of-actor-requires-5 : tie.Need-of-actor-requires-5
 of-actor-requires-5 c κs = search needs
 
+enum-known-s-17 : tie.Need-enum-known-s-17
+enum-known-s-17 c = search needs
+
+of-actor-requires-6 : tie.Need-of-actor-requires-6
+of-actor-requires-6 c κs = search needs
+
 returns : tie.Need-returns
 returns c = c .looking-back .ensures ∙ sym (ap aboutOf (c .before .before .s .given .1))
 
@@ -149,6 +155,9 @@ returns-15 c = c .of-actor4 .ensures ∙ sym (ap aboutOf (c .before .before .s15
 returns-16 : tie.Need-returns-16
 returns-16 c = c .of-actor5 .ensures ∙ sym (ap aboutOf (c .before .before .s16 .given .1))
 
+returns-17 : tie.Need-returns-17
+returns-17 c = c .of-actor6 .ensures ∙ sym (ap aboutOf (c .before .before .s17 .given .1))
+
 pub about-of-spec : {M : Type 1} → statement M
 about-of-spec =
     tie.close
@@ -185,6 +194,8 @@ about-of-spec =
     of-actor-requires-4
     enum-known-s-16
     of-actor-requires-5
+    enum-known-s-17
+    of-actor-requires-6
     returns
     returns-2
     returns-3
@@ -200,4 +211,5 @@ about-of-spec =
     returns-13
     returns-14
     returns-15
-    returns-16)
+    returns-16
+    returns-17)

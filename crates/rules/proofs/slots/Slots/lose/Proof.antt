@@ -2,7 +2,7 @@
 use mathlib.Core.Path.{refl, _∙_, sym}
 use Rattle.protocol.specs.Lose.{loseNo, lost}
 use Rattle.rules.proofs.Kit.{told, told-not}
-use Rattle.rules.proofs.Standing.{refuses, grants}
+use Rattle.rules.proofs.Standing.{refuses, grants-all}
 use borrow.Author.Needs.{needs}
 use Rattle.rules.proofs.slots.Slots.lose.Statement.{statement}
 use Rattle.rules.proofs.slots.Slots.lose.Tie as tie
@@ -26,7 +26,7 @@ lost-requires c κs = search needs
 returns-2 : tie.Need-returns-2
 unfolding loseNo lost
 returns-2 c = λ m p k role h.
-    grants h (simp (h .inside, rw (h .slots) at (told-not (c .before .before .copies .ensures) (c .before .if1 .left)))) (simp (c .before .before .copies .ensures, h .slots))
+    grants-all h (simp (h .inside, rw (h .slots) at (told-not (c .before .before .copies .ensures) (c .before .if1 .left)))) (simp (c .before .before .copies .ensures, h .slots))
     ∙ sym (c .lost .ensures m p k role h)
 
 pub lose-spec : {M : Type 1} → statement M

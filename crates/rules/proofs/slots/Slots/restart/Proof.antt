@@ -1,6 +1,5 @@
 -- `restart` meets its contract: up or not is what the test says. Assumes nothing.
 use mathlib.Core.Path.{refl}
-use borrow.Author.Tests.{eq-eqb, ne-eqb}
 use lib.Seq.{set-getD}
 use Rattle.protocol.specs.Restart.{restartNo, restarted}
 use Rattle.rules.proofs.Standing.{refuses, grants}

@@ -104,6 +104,12 @@ enum-known-s-16 c = search needs
 restart-requires : tie.Need-restart-requires
 restart-requires c κs = search needs
 
+enum-known-s-17 : tie.Need-enum-known-s-17
+enum-known-s-17 c = search needs
+
+checkpoint-requires : tie.Need-checkpoint-requires
+checkpoint-requires c κs = search needs
+
 returns : tie.Need-returns
 returns c = λ m h. rw (c .before .before .s .given .1) (c .send .ensures m (rw (c .before .before .s .given .1) at h))
 
@@ -152,6 +158,9 @@ returns-15 c = λ m h. rw (c .before .before .s15 .given .1) (c .crash .ensures 
 returns-16 : tie.Need-returns-16
 returns-16 c = λ m h. rw (c .before .before .s16 .given .1) (c .restart .ensures m _ (rw (c .before .before .s16 .given .1) at h))
 
+returns-17 : tie.Need-returns-17
+returns-17 c = λ m h. rw (c .before .before .s17 .given .1) (c .checkpoint .ensures m _ (rw (c .before .before .s17 .given .1) at h))
+
 pub rule-spec : {M : Type 1} → statement M
 rule-spec =
     tie.close
@@ -188,6 +197,8 @@ rule-spec =
     crash-requires
     enum-known-s-16
     restart-requires
+    enum-known-s-17
+    checkpoint-requires
     returns
     returns-2
     returns-3
@@ -203,4 +214,5 @@ rule-spec =
     returns-13
     returns-14
     returns-15
-    returns-16)
+    returns-16
+    returns-17)

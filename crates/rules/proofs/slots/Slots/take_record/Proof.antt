@@ -4,10 +4,9 @@ use mathlib.Core.Path.{refl}
 use borrow.Author.Tests.{eq-eqb, ne-eqb}
 use lib.ListN.{getD}
 use lib.Seq.{set-getD}
-use Rattle.protocol.specs.Slots.{number, linksPlace, noLinks, view, contents, viewlink, recordCopies, ackCopies}
-use Rattle.protocol.specs.Writes.{withRecordCopies, withAckCopies, withContentsAt, withCauseLinks, withViewlink}
-use Rattle.protocol.specs.Rule.{more}
-use Rattle.protocol.specs.TakeRecord.{takeRecordNo, writtenContents, writtenLinks, writtenViewlink, recordTaken}
+use Rattle.protocol.specs.Slots.{number, linksPlace, noLinks, shelf, view, contents, isHeld, recordCopies}
+use Rattle.protocol.specs.Writes.{withRecordCopies, withContentsAt, withCauseLinks, withShelf}
+use Rattle.protocol.specs.TakeRecord.{takeRecordNo, takenIn, writtenContents, writtenLinks, recordTaken}
 use Rattle.rules.proofs.Inside.{role-of-place}
 use Rattle.rules.proofs.Standing.{refuses, grants, key-of, role-of}
 use borrow.Author.Needs.{needs}
@@ -31,23 +30,20 @@ returns-2 c = λ m p k role h. simp (c .with2 .ensures) (refuses h 7 refl (simp 
 cast-role : tie.Need-cast-role
 cast-role c = search needs
 
+cast-held : tie.Need-cast-held
+cast-held c = search needs
+
+shr-held : tie.Need-shr-held
+shr-held c = search needs
+
 written-contents-requires : tie.Need-written-contents-requires
 written-contents-requires c κs = search needs
 
 written-links-requires : tie.Need-written-links-requires
 written-links-requires c κs = search needs
 
-element-copy-out-written-viewlink : tie.Need-element-copy-out-written-viewlink
-element-copy-out-written-viewlink c = search needs
-
-written-viewlink-requires : tie.Need-written-viewlink-requires
-written-viewlink-requires c κs = search needs
-
-one-more-requires : tie.Need-one-more-requires
-one-more-requires c κs = search needs
-
-element-write-s : tie.Need-element-write-s
-element-write-s c = search needs
+taken-in-requires : tie.Need-taken-in-requires
+taken-in-requires c κs = search needs
 
 sub-x : tie.Need-sub-x
 sub-x c = search needs
@@ -57,14 +53,14 @@ unfolding takeRecordNo recordTaken
 returns-3 c = λ m p k role h.
     let low = role-of-place (m .stores) (m .made) p k role (h .inside) in
     let v = number k role in
-    grants h (simp (h .inside, rw (h .slots) at (c .before .before .before .before .before .before .before .before .before .before .if1 .left), rw (h .slots) at (ne-eqb _ _ (c .before .before .before .before .before .before .before .before .if2 .left))))
-    (simp (c .before .one-more .ensures, c .before .before .written-viewlink .ensures, c .before .before .before .before .written-links .ensures, c .before .before .before .before .before .written-contents .ensures, h .slots, set-getD)
+    grants h (simp (h .inside, rw (h .slots) at (c .before .before .before .before .before .before .before .before .if1 .left), rw (h .slots) at (ne-eqb _ _ (c .before .before .before .before .before .before .if2 .left))))
+    (simp (c .before .taken-in .ensures, c .before .before .written-links .ensures, c .before .before .before .written-contents .ensures, h .slots, set-getD)
     (λ i.
-    withViewlink
+    withShelf
     (withCauseLinks
-    (withContentsAt (withAckCopies (withRecordCopies m p v (recordCopies m p v - 1)) p v (more (ackCopies m p v))) p v (writtenContents (contents m p v) (view m v)))
-    p (key-of k role low i) (writtenLinks (role-of k role low i) (contents m p v) (view m v) (getD (m .links) (linksPlace p (key-of k role low i)) noLinks)))
-    p v (writtenViewlink (viewlink m p v) (view m v))))
+    (withContentsAt (withRecordCopies m p v (recordCopies m p v - 1)) p v (writtenContents (isHeld m p v) (contents m p v) (view m v)))
+    p (key-of k role low i) (writtenLinks (role-of k role low i) (isHeld m p v) (view m v) (getD (m .links) (linksPlace p (key-of k role low i)) noLinks)))
+    p (takenIn (shelf m p) v (view m v))))
 
 pub take-record-spec : {M : Type 1} → statement M
 take-record-spec =
@@ -75,11 +71,10 @@ take-record-spec =
     with-requires-2
     returns-2
     cast-role
+    cast-held
+    shr-held
     written-contents-requires
     written-links-requires
-    element-copy-out-written-viewlink
-    written-viewlink-requires
-    one-more-requires
-    element-write-s
+    taken-in-requires
     sub-x
     returns-3)

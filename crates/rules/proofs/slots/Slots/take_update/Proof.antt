@@ -1,12 +1,11 @@
 -- `take_update` meets its contract: each guard gives the value of its test. Assumes nothing.
-use Prim.Native.Nat.{_+_, _-_}
+use Prim.Native.Nat.{_-_}
 use mathlib.Core.Path.{refl}
 use borrow.Author.Tests.{eq-eqb, ne-eqb}
 use lib.Seq.{set-getD}
-use Rattle.protocol.specs.Slots.{number, entry, updateCopies, uackCopies}
-use Rattle.protocol.specs.Writes.{withUpdateCopies, withUackCopies, withViewlink}
-use Rattle.protocol.specs.Rule.{more}
-use Rattle.protocol.specs.TakeUpdate.{takeUpdateNo, updateTaken}
+use Rattle.protocol.specs.Slots.{number, shelf, entry, updateCopies}
+use Rattle.protocol.specs.Writes.{withUpdateCopies, withShelf}
+use Rattle.protocol.specs.TakeUpdate.{takeUpdateNo, updatedIn, updateTaken}
 use Rattle.rules.proofs.Inside.{role-of-place}
 use Rattle.rules.proofs.Standing.{refuses, grants, key-of, role-of}
 use borrow.Author.Needs.{needs}
@@ -36,8 +35,8 @@ sub-o c = search needs
 add-o : tie.Need-add-o
 add-o c = search needs
 
-one-more-requires : tie.Need-one-more-requires
-one-more-requires c κs = search needs
+joined-requires : tie.Need-joined-requires
+joined-requires c κs = search needs
 
 add-s : tie.Need-add-s
 add-s c = search needs
@@ -54,8 +53,8 @@ returns-3 c = λ m p k role h.
     let low = role-of-place (m .stores) (m .made) p k role (h .inside) in
     let v = number k role in
     grants h (simp (h .inside, rw (h .slots) at (c .before .before .before .before .before .before .if1 .left), rw (h .slots) at (ne-eqb _ _ (c .before .before .before .before .if2 .left))))
-    (simp (c .before .before .one-more .ensures, h .slots, set-getD)
-    (λ i. withUackCopies (withViewlink (withUpdateCopies m p v (updateCopies m p v - 1)) p (number (key-of k role low i) (1 - role-of k role low i)) (entry m v .own + 1)) p v (more (uackCopies m p v))))
+    (simp (c .before .before .joined .ensures, h .slots, set-getD)
+    (λ i. withShelf (withUpdateCopies m p v (updateCopies m p v - 1)) p (updatedIn (shelf m p) v (number (key-of k role low i) (1 - role-of k role low i)) (entry m v .own))))
 
 pub take-update-spec : {M : Type 1} → statement M
 take-update-spec =
@@ -68,7 +67,7 @@ take-update-spec =
     mul-o
     sub-o
     add-o
-    one-more-requires
+    joined-requires
     add-s
     element-write-s
     sub-x
