@@ -1,6 +1,7 @@
 #!/bin/sh
-# Plants each of document 01's five easy ways to get it wrong, and two of a store with checkpoints,
-# in a copy of the peer, one at a time, and checks that the comparison finds it.
+# Plants each of document 01's five easy ways to get it wrong, two of a store with checkpoints and one
+# of a network that repeats, in a copy of the peer, one at a time, and checks that the comparison
+# finds it.
 #
 #   mutants.sh [SEEDS [RECORDER INSPECT]]
 #
@@ -94,6 +95,8 @@ plant "checkpoint 1" "a crash keeps what the store took and owes" \
     's|store.places_mut().for_each(Place::throw_back); // checkpoint 1||'
 plant "checkpoint 2" "a record is acknowledged before the checkpoint" \
     's|place.ack_owed = true; // checkpoint 2|place.send(What::Ack);|'
+plant "duplicate" "a sixteenth copy is counted" \
+    's|place.send(what); // duplicate|place.copies[what as usize] += 1;|'
 
 echo "$((planted - missed)) of $planted found"
 [ "$missed" = 0 ]

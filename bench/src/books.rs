@@ -131,9 +131,9 @@ impl Draft {
 }
 
 /// Each kind as often as it is drawn. Sends, receipts and pre-checks soon run out.
-const WEIGHTED: [u8; 36] = [
+const WEIGHTED: [u8; 37] = [
     1, 1, 1, 2, 3, 3, 4, 4, 4, 5, 5, 5, 6, 6, 6, 6, 7, 7, 7, 8, 9, 10, 10, 11, 11, 12, 12, 13, 13,
-    14, 14, 15, 16, 17, 17, 17,
+    14, 14, 15, 16, 17, 17, 17, 18,
 ];
 
 /// A book of 4,096 steps over sixteen interactions: every step is taken, but that one in so many

@@ -270,7 +270,7 @@ fn told(machine: &Machine, step: Step) -> u32 {
 
 /// Kind and name, as `5 timeout`.
 fn named(step: Step) -> String {
-    const NAMES: [&str; 17] = [
+    const NAMES: [&str; 18] = [
         "send",
         "receive",
         "pre-check",
@@ -288,6 +288,7 @@ fn named(step: Step) -> String {
         "crash",
         "restart",
         "checkpoint",
+        "duplicate",
     ];
     let kind = step.kind();
     format!("{kind} {}", NAMES[usize::from(kind) - 1])

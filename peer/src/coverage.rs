@@ -1,6 +1,7 @@
 //! What a range of generated books covers.
 
 use std::fmt;
+use std::iter;
 use std::ops::Range;
 
 use crate::book::Book;
@@ -34,6 +35,7 @@ const POSSIBLE: [&[u8]; KINDS as usize] = [
     &[0, 2, 5],
     &[0, 2, 6],
     &[0, 2, 5],
+    &[0, 2, 7],
 ];
 
 /// Something worth meeting in a run or at its end.
@@ -61,6 +63,11 @@ enum Event {
     CrashDropsUack,
     CrashThrowsBackContents,
     CrashThrowsBackUpdate,
+    RecordRepeated,
+    AckRepeated,
+    UpdateRepeated,
+    UackRepeated,
+    RepeatedAtFifteen,
     SixteenInteractions,
     DrainRefused,
     DrainSendsAck,
@@ -73,7 +80,7 @@ enum Event {
 }
 
 /// What each event is called, in their order.
-const EVENT_NAMES: [&str; 31] = [
+const EVENT_NAMES: [&str; 36] = [
     "a sixteenth record lost",
     "a sixteenth ack lost at a checkpoint",
     "a sixteenth update lost",
@@ -96,6 +103,11 @@ const EVENT_NAMES: [&str; 31] = [
     "a crash that drops an owed uack",
     "a crash that throws back contents",
     "a crash that throws back the viewlink of an update",
+    "a duplicate of a record",
+    "a duplicate of an ack",
+    "a duplicate of an update",
+    "a duplicate of a uack",
+    "a duplicate with fifteen copies in flight",
     "sixteen interactions",
     "a drain refused with a store down",
     "a drain that takes a checkpoint for an ack",
@@ -108,7 +120,6 @@ const EVENT_NAMES: [&str; 31] = [
 ];
 
 /// Counts over the books of some seeds.
-#[derive(Default)]
 pub struct Coverage {
     books: usize,
     steps: usize,
@@ -120,7 +131,14 @@ pub struct Coverage {
 
 impl Coverage {
     pub fn of_seeds(seeds: Range<u64>) -> Coverage {
-        let mut coverage = Coverage::default();
+        let mut coverage = Coverage {
+            books: 0,
+            steps: 0,
+            longest: 0,
+            refused: [0; Refusal::NUMBERS],
+            answers: [[0; Refusal::NUMBERS]; KINDS as usize],
+            events: [0; EVENT_NAMES.len()],
+        };
         for seed in seeds {
             coverage.add_book(&generate(seed));
         }
@@ -277,8 +295,17 @@ fn events(machine: &Machine, step: Step) -> Vec<Event> {
         }
         Step::Crash { store } => places(machine, store).flat_map(thrown_back).collect(),
         Step::Checkpoint { store } => places(machine, store).flat_map(sent_at_checkpoint).collect(),
+        Step::Duplicate { what, store, view } => repeated(machine, what, store, view),
         _ => event(machine, step).into_iter().collect(),
     }
+}
+
+fn repeated(machine: &Machine, what: u8, store: u8, view: View) -> Vec<Event> {
+    const EVENTS: [Event; What::ALL.len()] =
+        [Event::RecordRepeated, Event::AckRepeated, Event::UpdateRepeated, Event::UackRepeated];
+    let what = usize::from(what);
+    let full = is_full(machine, What::ALL[what], store, view);
+    iter::once(EVENTS[what]).chain(full.then_some(Event::RepeatedAtFifteen)).collect()
 }
 
 fn places(machine: &Machine, store: u8) -> impl Iterator<Item = &Place> {

@@ -154,7 +154,9 @@ fn not_there(machine: &Machine, step: Step) -> String {
         Step::TakeAck { store, view } => no_copy(What::Ack, store, view),
         Step::TakeUpdate { store, view } => no_copy(What::Update, store, view),
         Step::TakeUack { store, view } => no_copy(What::Uack, store, view),
-        Step::Lose { what, store, view } => no_copy(What::ALL[usize::from(what)], store, view),
+        Step::Lose { what, store, view } | Step::Duplicate { what, store, view } => {
+            no_copy(What::ALL[usize::from(what)], store, view)
+        }
         Step::TakeRepair { view } => format!("no repair of {} is in flight", name(view)),
         Step::SendUpdate { view } => entry_isnt(machine, view, Status::ToSend),
         Step::CoordinatorTimeout { view } => entry_isnt(machine, view, Status::Waiting),

@@ -11,10 +11,10 @@ use crate::random::Random;
 use draft::Draft;
 
 /// The styles take turns, so that few seeds cover them all.
-pub const STYLES: u64 = 22;
+pub const STYLES: u64 = 23;
 
 /// The first styles have steps alone that are taken.
-pub const LEGAL_STYLES: u64 = 11;
+pub const LEGAL_STYLES: u64 = 12;
 
 /// The book of a seed, as bytes.
 pub fn generate(seed: u64) -> Vec<u8> {
@@ -26,11 +26,12 @@ pub fn generate(seed: u64) -> Vec<u8> {
         8 => draft.late_record(),
         9 => draft.moved_receipts(),
         10 => draft.lost_before_checkpoint(),
-        11 => draft.sixteen(),
-        12 => draft.tries(),
-        13..=16 => draft.near_misses(),
-        17 | 18 => draft.wild(),
-        19 => draft.illegal_setup(),
+        11 => draft.repeating_broker(),
+        12 => draft.sixteen(),
+        13 => draft.tries(),
+        14..=17 => draft.near_misses(),
+        18 | 19 => draft.wild(),
+        20 => draft.illegal_setup(),
         _ => return draft.damaged(),
     }
     draft.book.bytes()

@@ -91,7 +91,7 @@ pub struct Contents {
     pub cause_links: [u8; MAX_INTERACTIONS],
 }
 
-/// The four messages that can be lost.
+/// The four messages that can be lost and repeated.
 #[derive(Clone, Copy, PartialEq, Eq, Debug)]
 #[repr(u8)]
 pub enum What {

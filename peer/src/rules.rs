@@ -1,8 +1,9 @@
-//! The rules of the seventeen steps: the refusals in the order of their numbers, then the effect.
+//! The rules of the eighteen steps: the refusals in the order of their numbers, then the effect.
 //!
 //! A line marked `easy way N` is where the Nth of document 01's easy ways to get it wrong
-//! would go wrong, one marked `checkpoint N` where a store would promise what a crash takes away;
-//! `mutants.sh` breaks each of them in turn.
+//! would go wrong, one marked `checkpoint N` where a store would promise what a crash takes away,
+//! one marked `duplicate` where a sixteenth copy would be counted; `mutants.sh` breaks each of them
+//! in turn.
 
 use crate::machine::{
     members, Application, Entry, Machine, Phase, Place, Record, Repair, Side, Status, View, What,
@@ -40,6 +41,7 @@ impl Machine {
             Step::Crash { store } => self.crash(store),
             Step::Restart { store } => self.restart(store),
             Step::Checkpoint { store } => self.checkpoint(store),
+            Step::Duplicate { what, store, view } => self.duplicate(what, store, view),
         }
     }
 
@@ -250,10 +252,8 @@ impl Machine {
 
     /// Step 14. One copy goes.
     fn lose(&mut self, what: u8, store: u8, view: View) -> Taken {
-        let what = *What::ALL.get(usize::from(what)).ok_or(Refusal::NotInMachine)?;
-        self.has_store(store)?;
-        self.has_view(view)?;
-        self.place_mut(store, view).take(what)
+        let (place, what) = self.place_of_copy(what, store, view)?;
+        place.take(what)
     }
 
     /// Step 15. The store goes down, and what it took since its last checkpoint is lost.
@@ -282,6 +282,13 @@ impl Machine {
         Ok(())
     }
 
+    /// Step 18. One more copy, up to fifteen.
+    fn duplicate(&mut self, what: u8, store: u8, view: View) -> Taken {
+        let (place, what) = self.place_of_copy(what, store, view)?;
+        place.send(what); // duplicate
+        Ok(())
+    }
+
     fn join_queue(&mut self, view: View, record: Record) {
         self.actors[usize::from(record.actor)].queue.push(view);
         self.side_mut(view).record = Record { phase: Phase::Queued, ..record };
@@ -290,6 +297,21 @@ impl Machine {
     fn entry_in(&mut self, view: View, status: Status) -> Result<&mut Entry, Refusal> {
         let entry = self.side_mut(view).entry.as_mut();
         entry.filter(|entry| entry.status == status).ok_or(Refusal::NotThere)
+    }
+
+    /// The place that a step names, and the message of which a copy is in flight there.
+    fn place_of_copy(
+        &mut self,
+        what: u8,
+        store: u8,
+        view: View,
+    ) -> Result<(&mut Place, What), Refusal> {
+        let what = *What::ALL.get(usize::from(what)).ok_or(Refusal::NotInMachine)?;
+        self.has_store(store)?;
+        self.has_view(view)?;
+        let place = self.place_mut(store, view);
+        Refusal::NotThere.when(place.count(what) == 0)?;
+        Ok((place, what))
     }
 
     fn has_actor(&self, actor: u8) -> Taken {

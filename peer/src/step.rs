@@ -1,4 +1,4 @@
-//! The seventeen kinds of step.
+//! The eighteen kinds of step.
 
 use crate::machine::View;
 
@@ -22,10 +22,11 @@ pub enum Step {
     Crash { store: u8 },
     Restart { store: u8 },
     Checkpoint { store: u8 },
+    Duplicate { what: u8, store: u8, view: View },
 }
 
 /// How many kinds there are; they are numbered from 1.
-pub const KINDS: u8 = 17;
+pub const KINDS: u8 = 18;
 
 /// What a field of a step stands for.
 #[derive(Clone, Copy, PartialEq, Eq, Debug)]
@@ -60,7 +61,7 @@ pub fn fields(kind: u8) -> Option<&'static [Field]> {
         5 => Some(&[Actor, Store]),
         6 | 7 | 11 | 12 => Some(&[Store, Key, Role]),
         9 | 10 | 13 => Some(&[Key, Role]),
-        14 => Some(&[What, Store, Key, Role]),
+        14 | 18 => Some(&[What, Store, Key, Role]),
         15..=17 => Some(&[Store]),
         _ => None,
     }
@@ -79,6 +80,9 @@ impl Step {
         fn of(view: View) -> Vec<u32> {
             vec![view.key.into(), view.role.into()]
         }
+        fn copy(what: u8, store: u8, view: View) -> Vec<u32> {
+            [vec![what.into()], at(store, view)].concat()
+        }
         match *self {
             Step::Send { from, to, own, data, causes } => {
                 (1, vec![from.into(), to.into(), own.into(), data, causes.into()])
@@ -95,10 +99,11 @@ impl Step {
             Step::TakeUpdate { store, view } => (11, at(store, view)),
             Step::TakeUack { store, view } => (12, at(store, view)),
             Step::CoordinatorTimeout { view } => (13, of(view)),
-            Step::Lose { what, store, view } => (14, [vec![what.into()], at(store, view)].concat()),
+            Step::Lose { what, store, view } => (14, copy(what, store, view)),
             Step::Crash { store } => (15, vec![store.into()]),
             Step::Restart { store } => (16, vec![store.into()]),
             Step::Checkpoint { store } => (17, vec![store.into()]),
+            Step::Duplicate { what, store, view } => (18, copy(what, store, view)),
         }
     }
 
@@ -134,6 +139,7 @@ impl Step {
             15 => Step::Crash { store },
             16 => Step::Restart { store },
             17 => Step::Checkpoint { store },
+            18 => Step::Duplicate { what: byte(0), store: byte(1), view: view(2) },
             _ => panic!("there is no kind {kind}"),
         }
     }

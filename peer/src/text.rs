@@ -34,9 +34,10 @@ pub const STEP_FORMS: [&str; KINDS as usize] = [
     "crash STORE",
     "restart STORE",
     "checkpoint STORE",
+    "duplicate WHAT store STORE key KEY role ROLE",
 ];
 
-/// The names of the messages that can be lost, by their numbers.
+/// The names of the messages that can be lost and repeated, by their numbers.
 pub const WHATS: [&str; 4] = ["record", "ack", "update", "uack"];
 
 /// What is wrong with a text, and in which line.

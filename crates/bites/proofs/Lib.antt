@@ -4,3 +4,4 @@ pub mod Witnesses
 pub mod Wrong
 pub mod Further
 pub mod Checkpoints
+pub mod Duplicates

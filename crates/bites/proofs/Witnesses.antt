@@ -51,7 +51,7 @@ ruledRun steps = ranRuled right (freshOf M) steps
 abbrev drainedRun : List Step → List Step
 drainedRun steps = steps ++ stepsRuled (ruledRun steps)
 
-closes : (steps : List Step) (k p q : ℕ) → allUp (ruledRun steps) ≡ true → closedOf (ruledRun (drainedRun steps)) k ≡ true
+pub closes : (steps : List Step) (k p q : ℕ) → allUp (ruledRun steps) ≡ true → closedOf (ruledRun (drainedRun steps)) k ≡ true
     → ackedRuled right (freshOf M) (drainedRun steps) (number k 0) ≡ p ∷ [] → ackedRuled right (freshOf M) (drainedRun steps) (number k 1) ≡ q ∷ []
     → Closes steps k p q
 closes steps k p q u c s r =
@@ -63,7 +63,7 @@ closes steps k p q u c s r =
       received = ap (λ (l : List Step). acknowledged (freshOf M) l (number k 1)) run ∙ acknowledged-ruled M legal-M (drainedRun steps) (number k 1) ∙ r;
     }
 
-accepts : (steps : List Step) (s : Step) (k r p : ℕ) → acceptedInto (ruledRun steps) (ruled right (ruledRun steps) s) s (number k r) ≡ p ∷ [] → Accepts steps s k r p
+pub accepts : (steps : List Step) (s : Step) (k r p : ℕ) → acceptedInto (ruledRun steps) (ruled right (ruledRun steps) s) s (number k r) ≡ p ∷ [] → Accepts steps s k r p
 accepts steps s k r p e = accepted-ruled M legal-M steps s (number k r) ∙ e
 
 accepts-effect : (steps : List Step) (s : Step) (k p j : ℕ) → acceptedInto (ruledRun steps) (ruled right (ruledRun steps) s) s (number k 0) ≡ p ∷ []

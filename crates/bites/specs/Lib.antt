@@ -4,3 +4,4 @@ pub mod Variants
 pub mod Wrong
 pub mod Further
 pub mod Checkpoints
+pub mod Duplicates

@@ -35,6 +35,7 @@ use Rattle.bites.specs.Witnesses.{Witnesses, BoundMet}
 use Rattle.bites.specs.Wrong.{Bites}
 use Rattle.bites.specs.Further.{BitesFurther}
 use Rattle.bites.specs.Checkpoints.{BitesCheckpoints}
+use Rattle.bites.specs.Duplicates.{BitesDuplicates}
 
 pub record Demands : Type 0 where
   -- 1. Every call ends and answers, for every machine value, step and run book, and no two results satisfy its promise.
@@ -112,6 +113,7 @@ pub record Demands : Type 0 where
   pub bites : Bites
   pub bites-further : BitesFurther
   pub bites-checkpoints : BitesCheckpoints
+  pub bites-duplicates : BitesDuplicates
   pub bound-met : BoundMet
   -- What they stand on, for any unbroken machine: a legal setup's and the empty one are unbroken, and no step breaks one.
   pub fresh-unbroken : (stores actors : ℕ) (homes lists : List ℕ) → legal stores actors homes lists ≡ true → length homes ≡ 8 → length lists ≡ 8 → brokenOf (freshWith stores actors homes lists) ≡ false

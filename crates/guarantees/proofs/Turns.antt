@@ -2,7 +2,7 @@
 -- Assumes nothing.
 use mathlib.Core.Path.{_≡_, refl, sym, ap, _∙_, subst}
 use mathlib.Core.Bool.{Bool, true, false, _&&_}
-use Prim.Native.Nat.{ℕ, _-_, _*_, _<_}
+use Prim.Native.Nat.{ℕ, _*_, _<_}
 use native.Mathlib.Omega.{arith}
 use native.Mathlib.Decide.{ℕ-discrete}
 use borrow.Author.Tests.{eqb-true}
@@ -30,14 +30,15 @@ use Rattle.protocol.specs.SendUpdate.{updateSent}
 use Rattle.protocol.specs.TakeUpdate.{updateTaken}
 use Rattle.protocol.specs.TakeUack.{uackTaken}
 use Rattle.protocol.specs.Expire.{expired}
-use Rattle.protocol.specs.Lose.{lost, copies}
+use Rattle.protocol.specs.Lose.{withCopies, lost}
 use Rattle.protocol.specs.Sweep.{swept}
 use Rattle.protocol.specs.Crash.{crashed}
 use Rattle.protocol.specs.Restart.{restarted}
 use Rattle.protocol.specs.Checkpoint.{checkpointed}
+use Rattle.protocol.specs.Duplicate.{duplicated}
 use Rattle.protocol.specs.Step.{numberOf, afterOf}
 use Rattle.protocol.specs.declared.Step.{Step}
-use Rattle.protocol.specs.declared.Step.the-variants.{Send, Receive, PreCheck, SendRecord, Timeout, TakeRecord, TakeAck, PostCheck, TakeRepair, SendUpdate, TakeUpdate, TakeUack, Expire, Lose, Crash, Restart, Checkpoint}
+use Rattle.protocol.specs.declared.Step.the-variants.{Send, Receive, PreCheck, SendRecord, Timeout, TakeRecord, TakeAck, PostCheck, TakeRepair, SendUpdate, TakeUpdate, TakeUack, Expire, Lose, Crash, Restart, Checkpoint, Duplicate}
 use Rattle.keeps.proofs.Conditions.{taken-when}
 use Rattle.guarantees.proofs.Heads.{Headed, and-true, headed}
 
@@ -68,8 +69,18 @@ module _ (m : State) (u : Unbroken m) (v : ℕ) (h : v < m .made * 2) where
       let x : headView m a ≡ view m v = ap (view m) (sym e) in
       subst P (sym x) (f (rw e (g .phase)) (rw e (ap (head m) (sym (g .owner)))))
 
+  -- a number of copies is written: the view stays
+  counted : (s : Step) (what p i n : ℕ) → Turn m s v (view (withCopies m what p i n) v)
+  counted s what p i n = go (eqb what 0) (eqb what 1) (eqb what 2)
+    where
+      go : (a b c : Bool) → Turn m s v (view (pick a (withRecordCopies m p i n) (pick b (withAckCopies m p i n) (pick c (withUpdateCopies m p i n) (withUackCopies m p i n)))) v)
+      go true b c = stays
+      go false true c = stays
+      go false false true = stays
+      go false false false = stays
+
   pub turns : (s : Step) → numberOf m s ≡ 0 → Turn m s v (view (afterOf m s) v)
-  unfolding sent receivedOf preChecked recordSent timedOut recordTaken ackTaken postChecked repairTaken updateSent updateTaken uackTaken expired lost swept crashed restarted checkpointed
+  unfolding sent receivedOf preChecked recordSent timedOut recordTaken ackTaken postChecked repairTaken updateSent updateTaken uackTaken expired lost swept crashed restarted checkpointed duplicated
   turns (Send from to own word causes) e =
       let t = taken-when m (Send from to own word causes) e in
       let room = t .room in
@@ -111,14 +122,8 @@ module _ (m : State) (u : Unbroken m) (v : ℕ) (h : v < m .made * 2) where
   turns (TakeUpdate p k r) e = stays
   turns (TakeUack p k r) e = stays
   turns (Expire k r) e = stays
-  turns (Lose what p k r) e = go (copies m what p (number k r) - 1) (eqb what 0) (eqb what 1) (eqb what 2)
-    where
-      go : (n : ℕ) (a b c : Bool)
-          → Turn m (Lose what p k r) v (view (pick a (withRecordCopies m p (number k r) n) (pick b (withAckCopies m p (number k r) n) (pick c (withUpdateCopies m p (number k r) n) (withUackCopies m p (number k r) n)))) v)
-      go n true b c = stays
-      go n false true c = stays
-      go n false false true = stays
-      go n false false false = stays
+  turns (Lose what p k r) e = counted (Lose what p k r) what p (number k r) _
   turns (Crash p) e = stays
   turns (Restart p) e = stays
   turns (Checkpoint p) e = stays
+  turns (Duplicate what p k r) e = counted (Duplicate what p k r) what p (number k r) _

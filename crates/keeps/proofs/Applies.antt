@@ -33,7 +33,7 @@ use Rattle.protocol.specs.Restart.{restartNo}
 use Rattle.protocol.specs.Checkpoint.{checkpointNo}
 use Rattle.protocol.specs.Step.{numberOf, stepOf}
 use Rattle.protocol.specs.declared.Step.{Step}
-use Rattle.protocol.specs.declared.Step.the-variants.{Send, Receive, PreCheck, SendRecord, Timeout, TakeRecord, TakeAck, PostCheck, TakeRepair, SendUpdate, TakeUpdate, TakeUack, Expire, Lose, Crash, Restart, Checkpoint}
+use Rattle.protocol.specs.declared.Step.the-variants.{Send, Receive, PreCheck, SendRecord, Timeout, TakeRecord, TakeAck, PostCheck, TakeRepair, SendUpdate, TakeUpdate, TakeUack, Expire, Lose, Crash, Restart, Checkpoint, Duplicate}
 use Rattle.unbroken.proofs.Laws.Every.{below-fails}
 use Rattle.unbroken.proofs.Laws.Tests.{by-test, not-both, or-else, or-of, nor-left, nor-right, not-of}
 use Rattle.unbroken.proofs.Laws.Says.{Says, eq-says, is-says, le-splits, zero-splits, put-says}
@@ -191,6 +191,7 @@ module _ (m : State) where
   rows (Restart p) =
       record { tests = (6 if isUp m p) ∷ []; rises = refl; number = refl; missing = λ n. absurd (n tt); tells = (λ h. restartUp p h, tt) }
   rows (Checkpoint p) = onlyUp (Checkpoint p) p (λ n. n tt) (checkpointDown p) refl
+  rows (Duplicate w p k r) = plain (Duplicate w p k r) (no-copy (copies m w p (number k r))) refl
 
   -- all tests of a step, and that they say what the table does
   abbrev all : Step → List Test

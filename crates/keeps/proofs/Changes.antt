@@ -1,18 +1,18 @@
 -- A change leaves every slot as it must be; each taken step is a chain of changes; so what every change keeps, every step keeps.
 -- The kinds are walked here, once. Assumes nothing.
-use Prim.Native.Nat.{ℕ, _-_, _≤_, _<_}
+use Prim.Native.Nat.{ℕ, _+_, _-_, _≤_, _<_}
 use mathlib.Core.Path.{_≡_, sym, ap, subst, _∙_}
 use mathlib.Core.Bool.{Bool, true, false, _&&_}
 use mathlib.Core.List.{List}
 use native.Mathlib.Omega.{arith}
 use lib.Seq.{getD-set-same, set-getD}
-use lib.Dec.{eqb}
-use borrow.Author.Tests.{eqb-true}
+use lib.Dec.{ltb, eqb}
+use borrow.Author.Tests.{ltb-true, eqb-true}
 use Rattle.protocol.specs.Words.{pick}
 use Rattle.protocol.specs.Slots.{number, noView, noEntry, statusNumber, view, queue, entry, recordCopies, ackCopies, updateCopies, uackCopies}
 use Rattle.protocol.specs.Writes.{withView, withEntry, withEntries, withAckCopies, withUackCopies, withRecordCopies, withUpdateCopies}
 use Rattle.protocol.specs.Broken.{brokenOf}
-use Rattle.unbroken.specs.Unbroken.{CopySlot, Unbroken}
+use Rattle.unbroken.specs.Unbroken.{Unbroken}
 use Rattle.protocol.specs.declared.State.{State}
 use Rattle.protocol.specs.declared.View.{View}
 use Rattle.protocol.specs.declared.Entry.{Entry}
@@ -32,11 +32,12 @@ use Rattle.protocol.specs.SendRecord.{recordSent}
 use Rattle.protocol.specs.PreCheck.{checkedView, preChecked}
 use Rattle.protocol.specs.Timeout.{timedView, timedOut}
 use Rattle.protocol.specs.Expire.{expired}
-use Rattle.protocol.specs.Lose.{lost}
+use Rattle.protocol.specs.Lose.{copies, withCopies, lost}
+use Rattle.protocol.specs.Duplicate.{duplicated}
 use Rattle.protocol.specs.Step.{numberOf, afterOf, stepOf}
 use Rattle.protocol.specs.declared.Step.{Step}
-use Rattle.protocol.specs.declared.Step.the-variants.{Send, Receive, PreCheck, SendRecord, Timeout, TakeRecord, TakeAck, PostCheck, TakeRepair, SendUpdate, TakeUpdate, TakeUack, Expire, Lose, Crash, Restart, Checkpoint}
-use Rattle.keeps.specs.Taken.{HeadIn, PlaceOf, TakeRecordTaken, TakeAckTaken, SendUpdateTaken, TakeUpdateTaken, TakeUackTaken, LoseTaken, Taken}
+use Rattle.protocol.specs.declared.Step.the-variants.{Send, Receive, PreCheck, SendRecord, Timeout, TakeRecord, TakeAck, PostCheck, TakeRepair, SendUpdate, TakeUpdate, TakeUack, Expire, Lose, Crash, Restart, Checkpoint, Duplicate}
+use Rattle.keeps.specs.Taken.{HeadIn, PlaceOf, TakeRecordTaken, TakeAckTaken, SendUpdateTaken, TakeUpdateTaken, TakeUackTaken, CopyThere, Taken}
 use Rattle.keeps.specs.Change.{HeadMove, isChecked, isSent, isTimed, isAcked, withFlight, FlightMove, recordComes, updateComes, recordsThere, acksThere, updatesThere, uacksThere}
 use Rattle.keeps.specs.Change.{withTaken, withUpdated, StatusMove, isWaiting, isExpired, isDone, Change, onSend, onReceive, onHead, onSettle, onFlight, onTaken, onUpdated, onStatus, onRepair, onCrash, onRestart, onCheckpoint, Changes, nothing, then}
 use Rattle.keeps.proofs.Conditions.{taken-when, waiting}
@@ -106,11 +107,17 @@ change-kept m n s (onCheckpoint p h up) = checkpointed-kept m s p h
 one : (m n : State) → Change m n → Changes m n
 one m n c = then m n nothing c
 
--- one copy fewer of a record, an ack, an update or a uack
-abbrev fewerOf : State → ℕ → ℕ → Bool → Bool → Bool → State
-fewerOf m p v a b c =
-    let n = pick a (recordCopies m p v) (pick b (ackCopies m p v) (pick c (updateCopies m p v) (uackCopies m p v))) - 1 in
+-- another number of copies of a record, an ack, an update or a uack
+abbrev countedOf : State → ℕ → ℕ → ℕ → Bool → Bool → Bool → State
+countedOf m p v n a b c =
     pick a (withRecordCopies m p v n) (pick b (withAckCopies m p v n) (pick c (withUpdateCopies m p v n) (withUackCopies m p v n)))
+
+-- of at most fifteen copies, one fewer or one more is not too many
+fewer-15 : (n : ℕ) → n ≤ 15 → n - 1 ≤ 15
+fewer-15 n h = omega arith
+
+more-15 : (n : ℕ) → n ≤ 15 → more n ≤ 15
+more-15 n h = pick-case (λ i. i ≤ 15) (ltb n 15) (n + 1) n (λ e. let t = ltb-true n 15 e in omega arith) (λ e. h)
 
 -- a choice of two values for a slot: the change, or the slot as it is
 choose : {A : Type 0} (m : State) (write : A → State) (c : Bool) (x y : A) → (c ≡ true → Changes m (write x)) → write y ≡ m → Changes m (write (pick c x y))
@@ -132,22 +139,24 @@ module _ (m : State) (s : Unbroken m) where
       then m₁ _ (one m m₁ (onHead a w (isSent h)))
       (onFlight _ (m .acks) (m .updates) (m .uacks) (recordComes (headView m a .store) v hs (head-made m s a ha some) (ap (λ (x : View). x .phase) now) (ap (λ (x : View). x .store) now)))
 
-  -- one copy fewer than there were is not too many
-  few : {stores p least at n : ℕ} → CopySlot stores p least at n → n - 1 ≤ 15
-  few c = let t = c .copies15 in omega arith
-
+  -- at a place are at most fifteen copies
   module _ (p k r : ℕ) (o : PlaceOf m p k r) where
-    few-records : recordCopies m p (number k r) - 1 ≤ 15
-    few-records = few (s .recordAt p (number k r) (place-8 m s p k r o) (view-32 m s p k r o))
+    records-15 : recordCopies m p (number k r) ≤ 15
+    records-15 = s .recordAt p (number k r) (place-8 m s p k r o) (view-32 m s p k r o) .copies15
 
-    few-acks : ackCopies m p (number k r) - 1 ≤ 15
-    few-acks = few (s .ackAt p (number k r) (place-8 m s p k r o) (view-32 m s p k r o))
+    acks-15 : ackCopies m p (number k r) ≤ 15
+    acks-15 = s .ackAt p (number k r) (place-8 m s p k r o) (view-32 m s p k r o) .copies15
 
-    few-updates : updateCopies m p (number k r) - 1 ≤ 15
-    few-updates = few (s .updateAt p (number k r) (place-8 m s p k r o) (view-32 m s p k r o))
+    updates-15 : updateCopies m p (number k r) ≤ 15
+    updates-15 = s .updateAt p (number k r) (place-8 m s p k r o) (view-32 m s p k r o) .copies15
 
-    few-uacks : uackCopies m p (number k r) - 1 ≤ 15
-    few-uacks = few (s .uackAt p (number k r) (place-8 m s p k r o) (view-32 m s p k r o))
+    uacks-15 : uackCopies m p (number k r) ≤ 15
+    uacks-15 = s .uackAt p (number k r) (place-8 m s p k r o) (view-32 m s p k r o) .copies15
+
+    copies-15 : (what : ℕ) → copies m what p (number k r) ≤ 15
+    copies-15 what =
+        pick-case (λ n. n ≤ 15) (eqb what 0) _ _ (λ e. records-15)
+        (λ e. pick-case (λ n. n ≤ 15) (eqb what 1) _ _ (λ f. acks-15) (λ f. pick-case (λ n. n ≤ 15) (eqb what 2) _ _ (λ g. updates-15) (λ g. uacks-15)))
 
   take-record-changes : (p k r : ℕ) → TakeRecordTaken m p k r → Changes m (recordTaken m p k r)
   unfolding recordTaken
@@ -156,7 +165,7 @@ module _ (m : State) (s : Unbroken m) where
       let m₁ = withTaken m p k r in
       let o₁ : PlaceOf m₁ p k r = record { storeIn = o .storeIn; keyIn = o .keyIn; roleIn = o .roleIn } in
       then m₁ _ (one m m₁ (onTaken p k r o (c .copy)))
-      (onFlight _ (m .acks) (m .updates) (m .uacks) (recordsThere p k r (recordCopies m p (number k r) - 1) o₁ (c .copy) (few-records p k r o)))
+      (onFlight _ (m .acks) (m .updates) (m .uacks) (recordsThere p k r (recordCopies m p (number k r) - 1) o₁ (c .copy) (fewer-15 _ (records-15 p k r o))))
 
   take-ack-changes : (p k r : ℕ) → TakeAckTaken m p k r → Changes m (ackTaken m p k r)
   unfolding ackTaken
@@ -183,7 +192,7 @@ module _ (m : State) (s : Unbroken m) where
       subst (λ (n : ℕ). Changes m (withView m n (phased 4 (view m n)))) here
       (one m _ (onHead a (phased 4 (headView m a)) (isAcked p h at (subst (λ (n : ℕ). 1 ≤ ackCopies m p n) (sym here) (c .copy))))) in
       then m₁ _ (choose m (withView m v) (accepts m p v) (phased 4 (view m v)) (view m v) accepted (same-view m v))
-      (onFlight (m .records) _ (m .updates) (m .uacks) (acksThere p k r (ackCopies m p v - 1) o₁ (c .copy) (few-acks p k r o)))
+      (onFlight (m .records) _ (m .updates) (m .uacks) (acksThere p k r (ackCopies m p v - 1) o₁ (c .copy) (fewer-15 _ (acks-15 p k r o))))
 
   send-update-changes : (k r : ℕ) → SendUpdateTaken m k r → Changes m (updateSent m k r)
   unfolding updateSent
@@ -210,7 +219,7 @@ module _ (m : State) (s : Unbroken m) where
       let m₁ = withUpdated m p k r in
       let o₁ : PlaceOf m₁ p k r = record { storeIn = o .storeIn; keyIn = o .keyIn; roleIn = o .roleIn } in
       then m₁ _ (one m m₁ (onUpdated p k r o (c .copy)))
-      (onFlight (m .records) (m .acks) _ (m .uacks) (updatesThere p k r (updateCopies m p (number k r) - 1) o₁ (c .copy) (few-updates p k r o)))
+      (onFlight (m .records) (m .acks) _ (m .uacks) (updatesThere p k r (updateCopies m p (number k r) - 1) o₁ (c .copy) (fewer-15 _ (updates-15 p k r o))))
 
   take-uack-changes : (p k r : ℕ) → TakeUackTaken m p k r → Changes m (uackTaken m p k r)
   unfolding uackTaken
@@ -227,26 +236,26 @@ module _ (m : State) (s : Unbroken m) where
       (λ b. one m _ (onStatus k r Done (record { keyIn = o .keyIn; roleIn = o .roleIn })
       (isDone p (o .storeIn) (waiting (entry m v .status) (eqb-true (statusNumber (entry m v .status)) 2 (and-left waits answers b))) (eqb-true (entry m v .destination) p (and-right waits answers b)) (c .copy))))
       (ap (withEntries m) (set-getD (m .entries) v noEntry)))
-      (onFlight (m .records) (m .acks) (m .updates) _ (uacksThere p k r (uackCopies m p v - 1) o₁ (c .copy) (few-uacks p k r o)))
+      (onFlight (m .records) (m .acks) (m .updates) _ (uacksThere p k r (uackCopies m p v - 1) o₁ (c .copy) (fewer-15 _ (uacks-15 p k r o))))
 
-  lose-changes : (what p k r : ℕ) → LoseTaken m what p k r → Changes m (lost m what p k r)
-  unfolding lost
-  lose-changes what p k r c = go (eqb what 0) (eqb what 1) (eqb what 2) (c .copy)
+  -- where there are copies of what is named, their number becomes another
+  counted-changes : (what p k r n : ℕ) → CopyThere m what p k r → n ≤ 15 → Changes m (withCopies m what p (number k r) n)
+  counted-changes what p k r n c few = go (eqb what 0) (eqb what 1) (eqb what 2) (c .copy)
     where
       o : PlaceOf m p k r
       o = c .place
 
       go : (a b d : Bool)
           → 1 ≤ pick a (recordCopies m p (number k r)) (pick b (ackCopies m p (number k r)) (pick d (updateCopies m p (number k r)) (uackCopies m p (number k r))))
-          → Changes m (fewerOf m p (number k r) a b d)
-      go true b d h = one m _ (onFlight _ (m .acks) (m .updates) (m .uacks) (recordsThere p k r _ o h (few-records p k r o)))
-      go false true d h = one m _ (onFlight (m .records) _ (m .updates) (m .uacks) (acksThere p k r _ o h (few-acks p k r o)))
-      go false false true h = one m _ (onFlight (m .records) (m .acks) _ (m .uacks) (updatesThere p k r _ o h (few-updates p k r o)))
-      go false false false h = one m _ (onFlight (m .records) (m .acks) (m .updates) _ (uacksThere p k r _ o h (few-uacks p k r o)))
+          → Changes m (countedOf m p (number k r) n a b d)
+      go true b d h = one m _ (onFlight _ (m .acks) (m .updates) (m .uacks) (recordsThere p k r n o h few))
+      go false true d h = one m _ (onFlight (m .records) _ (m .updates) (m .uacks) (acksThere p k r n o h few))
+      go false false true h = one m _ (onFlight (m .records) (m .acks) _ (m .uacks) (updatesThere p k r n o h few))
+      go false false false h = one m _ (onFlight (m .records) (m .acks) (m .updates) _ (uacksThere p k r n o h few))
 
 -- the walk through the kinds
 pub taken-changes : (m : State) (s : Step) → Unbroken m → Taken m s → Changes m (afterOf m s)
-unfolding preChecked timedOut expired
+unfolding preChecked timedOut expired lost duplicated
 taken-changes m (Send from to own word causes) e c = one m _ (onSend from to own word causes c)
 taken-changes m (Receive k) e c = one m _ (onReceive k c)
 taken-changes m (PreCheck a) e c = one m _ (onHead a (checkedView m (headView m a)) (isChecked c))
@@ -260,10 +269,11 @@ taken-changes m (SendUpdate k r) e c = send-update-changes m e k r c
 taken-changes m (TakeUpdate p k r) e c = take-update-changes m e p k r c
 taken-changes m (TakeUack p k r) e c = take-uack-changes m e p k r c
 taken-changes m (Expire k r) e c = one m _ (onStatus k r ToSend (c .view) (isExpired (c .waits)))
-taken-changes m (Lose what p k r) e c = lose-changes m e what p k r c
+taken-changes m (Lose what p k r) e c = counted-changes m e what p k r _ c (fewer-15 _ (copies-15 m e p k r (c .place) what))
 taken-changes m (Crash p) e c = one m _ (onCrash p (c .storeIn))
 taken-changes m (Restart p) e c = one m _ (onRestart p (c .storeIn))
 taken-changes m (Checkpoint p) e c = one m _ (onCheckpoint p (c .storeIn) (c .up))
+taken-changes m (Duplicate what p k r) e c = counted-changes m e what p k r _ c (more-15 _ (copies-15 m e p k r (c .place) what))
 
 -- every slot is kept through a chain of changes
 pub changes-kept : (m n : State) → Unbroken m → Changes m n → Unbroken n

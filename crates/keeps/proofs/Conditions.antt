@@ -31,8 +31,8 @@ use Rattle.protocol.specs.Restart.{restartNo}
 use Rattle.protocol.specs.Checkpoint.{checkpointNo}
 use Rattle.protocol.specs.Step.{numberOf}
 use Rattle.protocol.specs.declared.Step.{Step}
-use Rattle.protocol.specs.declared.Step.the-variants.{Send, Receive, PreCheck, SendRecord, Timeout, TakeRecord, TakeAck, PostCheck, TakeRepair, SendUpdate, TakeUpdate, TakeUack, Expire, Lose, Crash, Restart, Checkpoint}
-use Rattle.keeps.specs.Taken.{HeadIn, PlaceOf, ReceivedBy, SendTaken, ReceiveTaken, TimeoutTaken, TakeRecordTaken, TakeAckTaken, TakeRepairTaken, SendUpdateTaken, TakeUpdateTaken, TakeUackTaken, ExpireTaken, LoseTaken, StoreUp, RestartTaken, Taken}
+use Rattle.protocol.specs.declared.Step.the-variants.{Send, Receive, PreCheck, SendRecord, Timeout, TakeRecord, TakeAck, PostCheck, TakeRepair, SendUpdate, TakeUpdate, TakeUack, Expire, Lose, Crash, Restart, Checkpoint, Duplicate}
+use Rattle.keeps.specs.Taken.{HeadIn, PlaceOf, ReceivedBy, SendTaken, ReceiveTaken, TimeoutTaken, TakeRecordTaken, TakeAckTaken, TakeRepairTaken, SendUpdateTaken, TakeUpdateTaken, TakeUackTaken, ExpireTaken, CopyThere, StoreUp, RestartTaken, Taken}
 
 -- a number is 0 exactly if a fact holds
 record Zero (n : ℕ) (P : Type 0) : Type 0 where
@@ -229,10 +229,10 @@ module _ (m : State) where
       (λ x. record { view = record { keyIn = x .0 .0; roleIn = x .0 .1 }; waits = waiting (entry m (number k r) .status) (x .1 .0) })
       (λ s. ((s .view .keyIn, s .view .roleIn), (ap statusNumber (s .waits), tt)))
 
-  -- 14
-  lose-zero : (what p k r : ℕ) → Zero (loseNo m what p k r) (LoseTaken m what p k r)
+  -- 14 and 18
+  copy-zero : (what p k r : ℕ) → Zero (loseNo m what p k r) (CopyThere m what p k r)
   unfolding loseNo
-  lose-zero what p k r =
+  copy-zero what p k r =
       zero-put
       (zero-refused (omega arith) (or-splits (or-splits (or-splits (inside what 4) (inside p (m .stores))) (inside k (m .made))) (inside r 2))
       (zero-refused (omega arith) (zero-splits (copies m what p (number k r))) zero-taken))
@@ -268,10 +268,11 @@ module _ (m : State) where
   number-zero (TakeUpdate p k r) = take-update-zero p k r
   number-zero (TakeUack p k r) = take-uack-zero p k r
   number-zero (Expire k r) = expire-zero k r
-  number-zero (Lose what p k r) = lose-zero what p k r
+  number-zero (Lose what p k r) = copy-zero what p k r
   number-zero (Crash p) = up-zero p
   number-zero (Restart p) = restart-zero p
   number-zero (Checkpoint p) = up-zero p
+  number-zero (Duplicate what p k r) = copy-zero what p k r
 
   -- taken exactly when the condition holds
   pub taken-when : (s : Step) → numberOf m s ≡ 0 → Taken m s

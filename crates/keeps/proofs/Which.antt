@@ -20,14 +20,15 @@ use Rattle.protocol.specs.SendUpdate.{updateSent}
 use Rattle.protocol.specs.TakeUpdate.{updateTaken}
 use Rattle.protocol.specs.TakeUack.{uackTaken}
 use Rattle.protocol.specs.Expire.{expired}
-use Rattle.protocol.specs.Lose.{lost}
+use Rattle.protocol.specs.Lose.{withCopies, lost}
 use Rattle.protocol.specs.Crash.{crashed}
 use Rattle.protocol.specs.Restart.{restarted}
 use Rattle.protocol.specs.Sweep.{swept}
 use Rattle.protocol.specs.Checkpoint.{checkpointed}
+use Rattle.protocol.specs.Duplicate.{duplicated}
 use Rattle.protocol.specs.Step.{afterOf}
 use Rattle.protocol.specs.declared.Step.{Step}
-use Rattle.protocol.specs.declared.Step.the-variants.{Send, Receive, PreCheck, SendRecord, Timeout, TakeRecord, TakeAck, PostCheck, TakeRepair, SendUpdate, TakeUpdate, TakeUack, Expire, Lose, Crash, Restart, Checkpoint}
+use Rattle.protocol.specs.declared.Step.the-variants.{Send, Receive, PreCheck, SendRecord, Timeout, TakeRecord, TakeAck, PostCheck, TakeRepair, SendUpdate, TakeUpdate, TakeUack, Expire, Lose, Crash, Restart, Checkpoint, Duplicate}
 use Rattle.keeps.specs.Applies.{valueOf, named}
 use Rattle.keeps.proofs.Cases.{pick-case}
 
@@ -42,9 +43,8 @@ pub data Kind (s : Step) : Type 0 where
   a-send : (from to own word causes : ℕ) → s ≡ Send from to own word causes → Kind s
   another : Another s → Kind s
 
-lost-made : (m : State) (what p k r : ℕ) → lost m what p k r .made ≡ m .made
-unfolding lost
-lost-made m what p k r =
+counted-made : (m : State) (what p v n : ℕ) → withCopies m what p v n .made ≡ m .made
+counted-made m what p v n =
     pick-case (λ (x : State). x .made ≡ m .made) (eqb what 0) _ _ (λ e. refl)
     (λ e. pick-case (λ (x : State). x .made ≡ m .made) (eqb what 1) _ _ (λ f. refl) (λ f. pick-case (λ (x : State). x .made ≡ m .made) (eqb what 2) _ _ (λ g. refl) (λ g. refl)))
 
@@ -52,7 +52,7 @@ others : {s : Step} → eqb (kind s) 1 ≡ false → kind s < 256 → ((m : Stat
 others e l f b = another (record { other = e; low = l; made = f; bytes = b })
 
 pub kinds : (s : Step) → Kind s
-unfolding receivedOf preChecked recordSent timedOut recordTaken ackTaken postChecked repairTaken updateSent updateTaken uackTaken expired swept crashed restarted checkpointed
+unfolding receivedOf preChecked recordSent timedOut recordTaken ackTaken postChecked repairTaken updateSent updateTaken uackTaken expired lost swept crashed restarted checkpointed duplicated
 kinds (Send from to own word causes) = a-send from to own word causes refl
 kinds (Receive k) = others refl (omega arith) (λ m. refl) refl
 kinds (PreCheck a) = others refl (omega arith) (λ m. refl) refl
@@ -66,7 +66,8 @@ kinds (SendUpdate k r) = others refl (omega arith) (λ m. refl) refl
 kinds (TakeUpdate p k r) = others refl (omega arith) (λ m. refl) refl
 kinds (TakeUack p k r) = others refl (omega arith) (λ m. refl) refl
 kinds (Expire k r) = others refl (omega arith) (λ m. refl) refl
-kinds (Lose what p k r) = others refl (omega arith) (λ m. lost-made m what p k r) refl
+kinds (Lose what p k r) = others refl (omega arith) (λ m. counted-made m what p _ _) refl
 kinds (Crash p) = others refl (omega arith) (λ m. refl) refl
 kinds (Restart p) = others refl (omega arith) (λ m. refl) refl
 kinds (Checkpoint p) = others refl (omega arith) (λ m. refl) refl
+kinds (Duplicate what p k r) = others refl (omega arith) (λ m. counted-made m what p _ _) refl

@@ -13,7 +13,7 @@ use Rattle.protocol.specs.Rule.{headView}
 use Rattle.protocol.specs.Lose.{copies}
 use Rattle.protocol.specs.Step.{stepOf}
 use Rattle.protocol.specs.declared.Step.{Step}
-use Rattle.protocol.specs.declared.Step.the-variants.{Send, Receive, PreCheck, SendRecord, Timeout, TakeRecord, TakeAck, PostCheck, TakeRepair, SendUpdate, TakeUpdate, TakeUack, Expire, Lose, Crash, Restart, Checkpoint}
+use Rattle.protocol.specs.declared.Step.the-variants.{Send, Receive, PreCheck, SendRecord, Timeout, TakeRecord, TakeAck, PostCheck, TakeRepair, SendUpdate, TakeUpdate, TakeUack, Expire, Lose, Crash, Restart, Checkpoint, Duplicate}
 use Rattle.keeps.specs.Taken.{ReceivedBy}
 use Rattle.unbroken.specs.Lowest.{IsLowest}
 
@@ -48,6 +48,7 @@ named (Lose w p k r) = what w ∷ store p ∷ key k ∷ role r ∷ []
 named (Crash p) = store p ∷ []
 named (Restart p) = store p ∷ []
 named (Checkpoint p) = store p ∷ []
+named (Duplicate w p k r) = what w ∷ store p ∷ key k ∷ role r ∷ []
 
 abbrev pub Names : Step → Thing → Type 0
 Names s x = List·Memᴰ x (named s)
@@ -82,6 +83,7 @@ Needs m (Lose w p k r) = 1 ≤ copies m w p (number k r)
 Needs m (Crash p) = Unit
 Needs m (Restart p) = Unit
 Needs m (Checkpoint p) = Unit
+Needs m (Duplicate w p k r) = 1 ≤ copies m w p (number k r)
 
 pub data Applies (m : State) : Step → ℕ → Type 0 where
   -- 1 broken machine value

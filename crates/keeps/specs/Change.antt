@@ -1,5 +1,5 @@
 -- What a step can change. Each taken step is a chain of these changes, and each of them leaves an unbroken machine unbroken; so a
--- law that a change keeps, every step keeps, and no proof walks the seventeen kinds again.
+-- law that a change keeps, every step keeps, and no proof walks the kinds again.
 use Prim.Native.Nat.{ℕ, _*_, _-_, _≤_, _<_}
 use mathlib.Core.Path.{_≡_}
 use mathlib.Core.Bool.{true}
@@ -39,7 +39,7 @@ abbrev pub withFlight : State → List ℕ → List ℕ → List ℕ → List �
 withFlight m records acks updates uacks = withUacks (withUpdates (withAcks (withRecords m records) acks) updates) uacks
 
 -- a copy comes: of a record to the current store of a view in phase 3, of an update to the destination of an entry that waits.
--- Or, where there are copies, their number becomes another, up to fifteen: one goes
+-- Or, where there are copies, their number becomes another, up to fifteen: one goes, or one comes twice
 pub data FlightMove (m : State) : List ℕ → List ℕ → List ℕ → List ℕ → Type 0 where
   recordComes : (p v : ℕ) → p < m .stores → v < m .made * 2 → view m v .phase ≡ 3 → view m v .store ≡ p
       → FlightMove m (set (m .records) (place p v) (more (recordCopies m p v))) (m .acks) (m .updates) (m .uacks)

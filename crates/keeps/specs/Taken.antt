@@ -10,7 +10,7 @@ use Rattle.protocol.specs.declared.Status.the-variants.{ToSend, Waiting}
 use Rattle.protocol.specs.Rule.{headView}
 use Rattle.protocol.specs.Lose.{copies}
 use Rattle.protocol.specs.declared.Step.{Step}
-use Rattle.protocol.specs.declared.Step.the-variants.{Send, Receive, PreCheck, SendRecord, Timeout, TakeRecord, TakeAck, PostCheck, TakeRepair, SendUpdate, TakeUpdate, TakeUack, Expire, Lose, Crash, Restart, Checkpoint}
+use Rattle.protocol.specs.declared.Step.the-variants.{Send, Receive, PreCheck, SendRecord, Timeout, TakeRecord, TakeAck, PostCheck, TakeRepair, SendUpdate, TakeUpdate, TakeUack, Expire, Lose, Crash, Restart, Checkpoint, Duplicate}
 
 -- the head of an actor's queue is there and in this phase
 pub record HeadIn (phase : ℕ) (m : State) (a : ℕ) : Type 0 where
@@ -93,8 +93,8 @@ pub record ExpireTaken (m : State) (k r : ℕ) : Type 0 where
   pub view : ViewOf m k r
   pub waits : entry m (number k r) .status ≡ Waiting
 
--- 14 lose: a copy of what is named is in flight
-pub record LoseTaken (m : State) (what p k r : ℕ) : Type 0 where
+-- 14 lose, 18 duplicate: a copy of what is named is in flight
+pub record CopyThere (m : State) (what p k r : ℕ) : Type 0 where
   pub whatIn : what < 4
   pub place : PlaceOf m p k r
   pub copy : 1 ≤ copies m what p (number k r)
@@ -123,7 +123,8 @@ Taken m (SendUpdate k r) = SendUpdateTaken m k r
 Taken m (TakeUpdate p k r) = TakeUpdateTaken m p k r
 Taken m (TakeUack p k r) = TakeUackTaken m p k r
 Taken m (Expire k r) = ExpireTaken m k r
-Taken m (Lose what p k r) = LoseTaken m what p k r
+Taken m (Lose what p k r) = CopyThere m what p k r
 Taken m (Crash p) = StoreUp m p
 Taken m (Restart p) = RestartTaken m p
 Taken m (Checkpoint p) = StoreUp m p
+Taken m (Duplicate what p k r) = CopyThere m what p k r

@@ -1,1 +1,1 @@
-// The laws of the seventeen rules: definitions and proofs only, no function.
+// The laws of the rules: definitions and proofs only, no function.

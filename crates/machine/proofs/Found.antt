@@ -46,7 +46,7 @@ use Rattle.rules.specs.declared.past.Past.{Past}
 use Rattle.rules.specs.declared.slots.Slots.{Slots}
 use Rattle.rules.specs.declared.slots.Tried.{Tried}
 use Rattle.protocol.specs.declared.Step.{Step}
-use Rattle.protocol.specs.declared.Step.the-variants.{Send, Receive, PreCheck, SendRecord, Timeout, TakeRecord, TakeAck, PostCheck, TakeRepair, SendUpdate, TakeUpdate, TakeUack, Expire, Lose, Crash, Restart, Checkpoint}
+use Rattle.protocol.specs.declared.Step.the-variants.{Send, Receive, PreCheck, SendRecord, Timeout, TakeRecord, TakeAck, PostCheck, TakeRepair, SendUpdate, TakeUpdate, TakeUack, Expire, Lose, Crash, Restart, Checkpoint, Duplicate}
 use Rattle.rules.proofs.Inside.{key-low}
 use Rattle.machine.proofs.Spread.{acksAfter, uacksAfter, contentsAfter, linksAfter}
 
@@ -81,6 +81,7 @@ some-same stores actors made hp ha (Lose what p k r) = simp (lt-leb actors 0 ha,
 some-same stores actors made hp ha (Crash p) = simp (lt-leb actors 0 ha, or-false)
 some-same stores actors made hp ha (Restart p) = simp (lt-leb actors 0 ha, or-false)
 some-same stores actors made hp ha (Checkpoint p) = simp (lt-leb actors 0 ha, or-false)
+some-same stores actors made hp ha (Duplicate what p k r) = simp (lt-leb actors 0 ha, or-false)
 
 -- in the empty machine is nothing that a step could name
 none-out : (s : Step) → outsideOf 0 0 0 s ≡ true
@@ -101,6 +102,7 @@ none-out (Lose what p k r) = simp (leb·zero, or-true)
 none-out (Crash p) = simp leb·zero
 none-out (Restart p) = simp leb·zero
 none-out (Checkpoint p) = simp leb·zero
+none-out (Duplicate what p k r) = simp (leb·zero, or-true)
 
 none-about : (b : About) → outsideAbout 0 0 0 b ≡ true
 none-about b = simp (leb·zero, or-true)
@@ -134,6 +136,7 @@ outside-refuses m (Lose what p k r) e = simp e
 outside-refuses m (Crash p) e = simp e
 outside-refuses m (Restart p) e = simp e
 outside-refuses m (Checkpoint p) e = simp e
+outside-refuses m (Duplicate what p k r) e = simp e
 
 -- a step that is about what isn't there is refused
 pub about-refuses : (m : State) → brokenOf m ≡ false → (s : Step) (b : About) → b ≡ aboutOf s → outsideAbout (m .stores) (m .actors) (m .made) b ≡ true → ruleOf m s ≡ answered 2 m

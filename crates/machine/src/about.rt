@@ -113,6 +113,12 @@ pub(crate) fn about_of(s: Step) -> About
         Step::Crash { store } => of_actor(0, 0, store),
         Step::Restart { store } => of_actor(0, 0, store),
         Step::Checkpoint { store } => of_actor(0, 0, store),
+        Step::Duplicate {
+            what,
+            store,
+            key,
+            role,
+        } => of_place(what, store, key, role),
     }
 }
 

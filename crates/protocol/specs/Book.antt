@@ -7,7 +7,7 @@ use lib.ListN.{length, getD}
 use Rattle.protocol.specs.Words.{pick, table}
 use Rattle.protocol.specs.declared.Setup.{Setup}
 use Rattle.protocol.specs.declared.Step.{Step}
-use Rattle.protocol.specs.declared.Step.the-variants.{Send, Receive, PreCheck, SendRecord, Timeout, TakeRecord, TakeAck, PostCheck, TakeRepair, SendUpdate, TakeUpdate, TakeUack, Expire, Lose, Crash, Restart, Checkpoint}
+use Rattle.protocol.specs.declared.Step.the-variants.{Send, Receive, PreCheck, SendRecord, Timeout, TakeRecord, TakeAck, PostCheck, TakeRepair, SendUpdate, TakeUpdate, TakeUack, Expire, Lose, Crash, Restart, Checkpoint, Duplicate}
 use Rattle.protocol.specs.declared.Read.{Read}
 use Rattle.protocol.specs.declared.Read.the-variants.{Got, Bad}
 
@@ -23,12 +23,12 @@ low32 s i = low16 s i + low16 s (i + 2) * 65536
 
 -- how many bytes the fields of a kind take; 0 for an unknown kind
 abbrev pub widths : List ℕ
-widths = 0 ∷ 9 ∷ 1 ∷ 1 ∷ 1 ∷ 2 ∷ 3 ∷ 3 ∷ 1 ∷ 2 ∷ 2 ∷ 3 ∷ 3 ∷ 2 ∷ 4 ∷ 1 ∷ 1 ∷ 1 ∷ []
+widths = 0 ∷ 9 ∷ 1 ∷ 1 ∷ 1 ∷ 2 ∷ 3 ∷ 3 ∷ 1 ∷ 2 ∷ 2 ∷ 3 ∷ 3 ∷ 2 ∷ 4 ∷ 1 ∷ 1 ∷ 1 ∷ 4 ∷ []
 
 unfoldable pub widthOf : ℕ → ℕ
 widthOf kind = getD widths kind 0
 
--- kinds 9 to 17, whose fields are bytes: repair, loss, crash, restart and checkpoint
+-- kinds 9 to 18, whose fields are bytes: repair, loss, crash, restart, checkpoint and duplicate
 unfoldable pub repairMade : ℕ → ℕ → ℕ → ℕ → ℕ → Step
 repairMade kind a b c d =
     pick (eqb kind 9) (TakeRepair a b)
@@ -39,9 +39,10 @@ repairMade kind a b c d =
     (pick (eqb kind 14) (Lose a b c d)
     (pick (eqb kind 15) (Crash a)
     (pick (eqb kind 16) (Restart a)
-    (Checkpoint a))))))))
+    (pick (eqb kind 17) (Checkpoint a)
+    (Duplicate a b c d)))))))))
 
--- kinds 2 to 17, whose fields are bytes
+-- kinds 2 to 18, whose fields are bytes
 unfoldable pub shortMade : ℕ → ℕ → ℕ → ℕ → ℕ → Step
 shortMade kind a b c d =
     pick (eqb kind 2) (Receive a)

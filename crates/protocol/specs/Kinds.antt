@@ -5,7 +5,7 @@ use lib.Dec.{eqb}
 use lib.ListN.{getD}
 use Rattle.protocol.specs.Words.{pick}
 use Rattle.protocol.specs.declared.Step.{Step}
-use Rattle.protocol.specs.declared.Step.the-variants.{Send, Receive, PreCheck, SendRecord, Timeout, TakeRecord, TakeAck, PostCheck, TakeRepair, SendUpdate, TakeUpdate, TakeUack, Expire, Lose, Crash, Restart, Checkpoint}
+use Rattle.protocol.specs.declared.Step.the-variants.{Send, Receive, PreCheck, SendRecord, Timeout, TakeRecord, TakeAck, PostCheck, TakeRepair, SendUpdate, TakeUpdate, TakeUack, Expire, Lose, Crash, Restart, Checkpoint, Duplicate}
 
 -- document 01's number of the kind, then its fields in their order
 abbrev pub numbers : Step → List ℕ
@@ -26,6 +26,7 @@ numbers (Lose what p k r) = 14 ∷ what ∷ p ∷ k ∷ r ∷ []
 numbers (Crash p) = 15 ∷ p ∷ []
 numbers (Restart p) = 16 ∷ p ∷ []
 numbers (Checkpoint p) = 17 ∷ p ∷ []
+numbers (Duplicate what p k r) = 18 ∷ what ∷ p ∷ k ∷ r ∷ []
 
 abbrev pub kind : Step → ℕ
 kind s = getD (numbers s) 0 0

@@ -27,6 +27,7 @@ pub mod Sweep
 pub mod Crash
 pub mod Restart
 pub mod Checkpoint
+pub mod Duplicate
 pub mod Step
 pub mod Kinds
 pub mod Steps

@@ -23,8 +23,9 @@ use Rattle.protocol.specs.Lose.{loseNo, lost}
 use Rattle.protocol.specs.Crash.{crashNo, crashed}
 use Rattle.protocol.specs.Restart.{restartNo, restarted}
 use Rattle.protocol.specs.Checkpoint.{checkpointNo, checkpointed}
+use Rattle.protocol.specs.Duplicate.{duplicateNo, duplicated}
 use Rattle.protocol.specs.declared.Step.{Step}
-use Rattle.protocol.specs.declared.Step.the-variants.{Send, Receive, PreCheck, SendRecord, Timeout, TakeRecord, TakeAck, PostCheck, TakeRepair, SendUpdate, TakeUpdate, TakeUack, Expire, Lose, Crash, Restart, Checkpoint}
+use Rattle.protocol.specs.declared.Step.the-variants.{Send, Receive, PreCheck, SendRecord, Timeout, TakeRecord, TakeAck, PostCheck, TakeRepair, SendUpdate, TakeUpdate, TakeUack, Expire, Lose, Crash, Restart, Checkpoint, Duplicate}
 
 -- the number that refuses a step, 0 where it is taken
 abbrev pub numberOf : State → Step → ℕ
@@ -45,6 +46,7 @@ numberOf m (Lose what p k r) = loseNo m what p k r
 numberOf m (Crash p) = crashNo m p
 numberOf m (Restart p) = restartNo m p
 numberOf m (Checkpoint p) = checkpointNo m p
+numberOf m (Duplicate what p k r) = duplicateNo m what p k r
 
 -- the machine that the rule states
 abbrev pub afterOf : State → Step → State
@@ -65,6 +67,7 @@ afterOf m (Lose what p k r) = lost m what p k r
 afterOf m (Crash p) = crashed m p
 afterOf m (Restart p) = restarted m p
 afterOf m (Checkpoint p) = checkpointed m p
+afterOf m (Duplicate what p k r) = duplicated m what p k r
 
 -- the rule alone, for a machine that is not broken
 unfoldable pub ruleOf : State → Step → Outcome

@@ -147,7 +147,7 @@ pub struct Setup {
     pub lists: [u8; 8],
 }
 
-// A step is one of seventeen kinds, each with its own fields.
+// A step is one of eighteen kinds, each with its own fields.
 pub enum Step {
     Send {
         from: u8,
@@ -218,6 +218,12 @@ pub enum Step {
     },
     Checkpoint {
         store: u8,
+    },
+    Duplicate {
+        what: u8,
+        store: u8,
+        key: u8,
+        role: u8,
     },
 }
 

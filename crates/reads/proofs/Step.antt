@@ -12,7 +12,7 @@ use lib.Seq.{getD-drop}
 use lib.Pow.{areBytes}
 use borrow.Author.Tests.{ltb-true, ltb-false, lt-leb, eqb-false, eqb-true, ne-eqb}
 use Rattle.protocol.specs.declared.Step.{Step}
-use Rattle.protocol.specs.declared.Step.the-variants.{Send, Receive, PreCheck, SendRecord, Timeout, TakeRecord, TakeAck, PostCheck, TakeRepair, SendUpdate, TakeUpdate, TakeUack, Expire, Lose, Crash, Restart, Checkpoint}
+use Rattle.protocol.specs.declared.Step.the-variants.{Send, Receive, PreCheck, SendRecord, Timeout, TakeRecord, TakeAck, PostCheck, TakeRepair, SendUpdate, TakeUpdate, TakeUack, Expire, Lose, Crash, Restart, Checkpoint, Duplicate}
 use Rattle.protocol.specs.declared.Read.the-variants.{Got}
 use Rattle.protocol.specs.Book.{byte, widths, widthOf, repairMade, shortMade, stepMade, readStep}
 use Rattle.protocol.specs.Write.{written}
@@ -74,6 +74,7 @@ module _ (s : List ℕ) (at : ℕ) (rest : List ℕ) where
   step-there (Crash p) e l = there (Crash p) 15 1 e l refl refl (omega arith) refl refl
   step-there (Restart p) e l = there (Restart p) 16 1 e l refl refl (omega arith) refl refl
   step-there (Checkpoint p) e l = there (Checkpoint p) 17 1 e l refl refl (omega arith) refl refl
+  step-there (Duplicate w p k r) e l = there (Duplicate w p k r) 18 4 e l refl refl (omega arith) refl refl
 
 pub byte-low : (s : List ℕ) → areBytes s ≡ true → (i : ℕ) → byte s i < 256
 byte-low [] h i = omega arith
@@ -98,19 +99,19 @@ each P k (suc n) p i a b = go (each P (suc k) n (p .1) i) (eqb i k) refl
     go f true e = rw (eqb-true i k e) (p .0)
     go f false e = let d : i ≡ k → ⊥ = eqb-false i k e in f (omega arith) (omega arith)
 
--- a kind that has fields is one of seventeen
-width-behind : (k : ℕ) → 17 < k → widthOf k ≡ 0
+-- a kind that has fields is one of eighteen
+width-behind : (k : ℕ) → 18 < k → widthOf k ≡ 0
 unfolding widthOf
 width-behind k h = List·getD-eq-default widths 0 h
 
-kind-low : (k : ℕ) → (widthOf k ≡ 0 → ⊥) → (1 ≤ k) × (k ≤ 17)
+kind-low : (k : ℕ) → (widthOf k ≡ 0 → ⊥) → (1 ≤ k) × (k ≤ 18)
 unfolding widthOf
 kind-low zero h = absurd (h refl)
-kind-low (suc k) h = (omega arith, go (ltb 17 (suc k)) refl)
+kind-low (suc k) h = (omega arith, go (ltb 18 (suc k)) refl)
   where
-    go : (t : Bool) → ltb 17 (suc k) ≡ t → suc k ≤ 17
-    go true e = absurd (h (width-behind (suc k) (ltb-true 17 (suc k) e)))
-    go false e = ltb-false 17 (suc k) e
+    go : (t : Bool) → ltb 18 (suc k) ≡ t → suc k ≤ 18
+    go true e = absurd (h (width-behind (suc k) (ltb-true 18 (suc k) e)))
+    go false e = ltb-false 18 (suc k) e
 
 -- two and four bytes, low first, come back
 module _ (a b c d : ℕ) (ha : a < 256) (hb : b < 256) (hc : c < 256) (hd : d < 256) where
@@ -147,6 +148,6 @@ module _ (s : List ℕ) (bs : areBytes s ≡ true) (i : ℕ) where
   pub step-same : (k : ℕ) → (widthOf k ≡ 0 → ⊥) → Same k
   unfolding stepMade shortMade repairMade widthOf
   step-same k h =
-      each Same 1 16
-      (send-same, (refl, (refl, (refl, (refl, (simp add-assoc, (simp add-assoc, (refl, (refl, (refl, (simp add-assoc, (simp add-assoc, (refl, (simp add-assoc, (refl, (refl, refl))))))))))))))))
+      each Same 1 17
+      (send-same, (refl, (refl, (refl, (refl, (simp add-assoc, (simp add-assoc, (refl, (refl, (refl, (simp add-assoc, (simp add-assoc, (refl, (simp add-assoc, (refl, (refl, (refl, simp add-assoc)))))))))))))))))
       k (kind-low k h .0) (kind-low k h .1)

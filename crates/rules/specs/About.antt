@@ -8,7 +8,7 @@ use Rattle.protocol.specs.declared.State.{State}
 use Rattle.protocol.specs.Rule.{outside, head}
 use Rattle.rules.specs.declared.about.About.{About}
 use Rattle.protocol.specs.declared.Step.{Step}
-use Rattle.protocol.specs.declared.Step.the-variants.{Send, Receive, PreCheck, SendRecord, Timeout, TakeRecord, TakeAck, PostCheck, TakeRepair, SendUpdate, TakeUpdate, TakeUack, Expire, Lose, Crash, Restart, Checkpoint}
+use Rattle.protocol.specs.declared.Step.the-variants.{Send, Receive, PreCheck, SendRecord, Timeout, TakeRecord, TakeAck, PostCheck, TakeRepair, SendUpdate, TakeUpdate, TakeUack, Expire, Lose, Crash, Restart, Checkpoint, Duplicate}
 
 -- send and pre-check look back at the receipts of their actor; send makes an interaction too
 abbrev pub lookingBack : ℕ → Bool → ℕ → ℕ → ℕ → About
@@ -25,7 +25,7 @@ abbrev pub ofView : ℕ → ℕ → ℕ → About
 ofView k r whose =
     record { back = false; making = false; acting = false; actor = 0; key = k; role = r; whose = whose; store = 0; other = 0; causes = 0; what = 0 }
 
--- the store is named too, and what is lost there
+-- the store is named too, and what is lost or comes twice there
 abbrev pub ofPlace : ℕ → ℕ → ℕ → ℕ → About
 ofPlace what p k r =
     record { back = false; making = false; acting = false; actor = 0; key = k; role = r; whose = 0; store = p; other = 0; causes = 0; what = what }
@@ -49,6 +49,7 @@ aboutOf (Lose what p k r) = ofPlace what p k r
 aboutOf (Crash p) = ofActor 0 0 p
 aboutOf (Restart p) = ofActor 0 0 p
 aboutOf (Checkpoint p) = ofActor 0 0 p
+aboutOf (Duplicate what p k r) = ofPlace what p k r
 
 -- the store that is named, the view's current store, or the destination of its entry
 abbrev pub storeOf : ℕ → ℕ → ℕ → ℕ → ℕ
@@ -93,3 +94,4 @@ outsideOf stores actors made (Lose what p k r) = outside what 4 || outside p sto
 outsideOf stores actors made (Crash p) = outside p stores
 outsideOf stores actors made (Restart p) = outside p stores
 outsideOf stores actors made (Checkpoint p) = outside p stores
+outsideOf stores actors made (Duplicate what p k r) = outside what 4 || outside p stores || outside k made || outside r 2

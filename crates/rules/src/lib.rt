@@ -1,8 +1,9 @@
-// The rules of the seventeen kinds of step, each on the slots of the one actor, view and store that its step is about.
+// The rules of the eighteen kinds of step, each on the slots of the one actor, view and store that its step is about.
 
 pub mod about;
 mod checkpoint;
 mod crash;
+mod duplicate;
 mod expire;
 mod lose;
 pub mod past;

@@ -7,7 +7,8 @@ ghost use Rattle.protocol.specs.Slots.{number};
 ghost use Rattle.protocol.specs.Words.{pick};
 ghost use Rattle.protocol.specs.declared.State.{State};
 ghost use Rattle.protocol.specs.Lose.{withCopies};
-ghost use Rattle.rules.specs.Slots.{Stands, outcome};
+ghost use Rattle.rules.specs.About.{ofPlace};
+ghost use Rattle.rules.specs.Slots.{Stands, outcome, slotsOf, withSlots};
 ghost use Rattle.protocol.specs.Step.{ruleOf};
 ghost use Rattle.protocol.specs.declared.Step.the-variants.{Lose};
 use crate::slots::Slots;
@@ -22,12 +23,12 @@ impl Slots {
         if copies == 0 {
             return self.with(7);
         }
-        self.lost(what, copies - 1)
+        self.counted(what, copies - 1)
     }
 
     // The count of what is named becomes n.
-    fn lost(self, what: u8, n: u8) -> Tried
-        ensures { λ r. ⌜ ((m : State) (p k role : ℕ) → Stands m (Lose what p k role) self → outcome m (Lose what p k role) r ≡ answered 0 (withCopies m what p (number k role) n)) ⌝ }
+    pub(crate) fn counted(self, what: u8, n: u8) -> Tried
+        ensures { λ r. ⌜ ((m : State) (p k role : ℕ) → self ≡ slotsOf m (ofPlace what p k role) → answered (r .answer) (withSlots m (ofPlace what p k role) (r .slots)) ≡ answered 0 (withCopies m what p (number k role) n)) ⌝ }
     {
         let mut x = self;
         if what == 0 {
@@ -48,7 +49,7 @@ impl Slots {
 }
 
 // The copies of what is named, of the four counts at a place.
-fn copies(what: u8, records: u8, acks: u8, updates: u8, uacks: u8) -> u8
+pub(crate) fn copies(what: u8, records: u8, acks: u8, updates: u8, uacks: u8) -> u8
     ensures { λ r. ⌜ r ≡ pick (eqb what 0) records (pick (eqb what 1) acks (pick (eqb what 2) updates uacks)) ⌝ }
 {
     if what == 0 {

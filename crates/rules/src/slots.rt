@@ -101,6 +101,12 @@ impl Slots {
             Step::Crash { store } => self.crash(),
             Step::Restart { store } => self.restart(),
             Step::Checkpoint { store } => self.checkpoint(),
+            Step::Duplicate {
+                what,
+                store,
+                key,
+                role,
+            } => self.duplicate(what),
         }
     }
 }

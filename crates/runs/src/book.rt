@@ -8,13 +8,13 @@ ghost use lib.ListN.{length};
 ghost use Rattle.protocol.specs.Book.{byte, low16, low32, widthOf, repairMade, shortMade, stepMade, readKind, readStep};
 
 // By kind, how many bytes its fields take.
-const WIDTHS: [usize; 18] = [0, 9, 1, 1, 1, 2, 3, 3, 1, 2, 2, 3, 3, 2, 4, 1, 1, 1];
+const WIDTHS: [usize; 19] = [0, 9, 1, 1, 1, 2, 3, 3, 1, 2, 2, 3, 3, 2, 4, 1, 1, 1, 4];
 
 // 0 for an unknown kind.
 fn width_of(kind: u8) -> usize
     ensures { λ r. ⌜ r ≡ widthOf kind ⌝ }
 {
-    if kind < 18 { WIDTHS[kind as usize] } else { 0 }
+    if kind < 19 { WIDTHS[kind as usize] } else { 0 }
 }
 
 // The byte at i, 0 behind the end.
@@ -47,7 +47,7 @@ fn low32(s: &[u8], i: usize) -> u32
     (low16(s, i) as u32) + (low16(s, i + 2) as u32) * 65536
 }
 
-// Kinds 9 to 17.
+// Kinds 9 to 18.
 fn repair_made(kind: u8, a: u8, b: u8, c: u8, d: u8) -> Step
     ensures { λ r. ⌜ r ≡ repairMade kind a b c d ⌝ }
 {
@@ -73,11 +73,17 @@ fn repair_made(kind: u8, a: u8, b: u8, c: u8, d: u8) -> Step
         },
         15 => Step::Crash { store: a },
         16 => Step::Restart { store: a },
-        _ => Step::Checkpoint { store: a },
+        17 => Step::Checkpoint { store: a },
+        _ => Step::Duplicate {
+            what: a,
+            store: b,
+            key: c,
+            role: d,
+        },
     }
 }
 
-// Kinds 2 to 17, whose fields are bytes.
+// Kinds 2 to 18, whose fields are bytes.
 fn short_made(kind: u8, a: u8, b: u8, c: u8, d: u8) -> Step
     ensures { λ r. ⌜ r ≡ shortMade kind a b c d ⌝ }
 {

@@ -184,7 +184,7 @@ fn actor_setup(random: &mut Random, stores: usize) -> ActorSetup {
 
 impl Temper {
     fn new(random: &mut Random) -> Temper {
-        let mut weights = [6, 6, 8, 8, 0, 9, 9, 9, 6, 8, 8, 8, 0, 0, 0, 4, 0];
+        let mut weights = [6, 6, 8, 8, 0, 9, 9, 9, 6, 8, 8, 8, 0, 0, 0, 4, 0, 0];
         let often = |kind: usize| kind - 1;
         weights[often(5)] = [1, 3, 9][random.below(3)];
         weights[often(13)] = [1, 4][random.below(2)];
@@ -192,6 +192,7 @@ impl Temper {
         // Never zero: with every store up, a crash may be the only legal step left.
         weights[often(15)] = [1, 1, 3][random.below(3)];
         weights[often(17)] = [4, 9, 18][random.below(3)];
+        weights[often(18)] = [0, 3, 8][random.below(3)];
         let interactions = random.between(1, MAX_INTERACTIONS);
         Temper { weights, interactions, diligence: random.below(4) }
     }

@@ -3,7 +3,8 @@
 use crate::machine::{members, Machine, Phase, Record, Status, View, What, MAX_TRIES};
 use crate::step::Step;
 
-/// Every step of that kind that the machine takes; sends aside, which are too many to list.
+/// Every step of that kind that the machine takes; sends aside, which are too many to list, and
+/// checkpoints, which a draft chooses by what is owed.
 pub fn enabled(machine: &Machine, kind: u8) -> Vec<Step> {
     let is_up = |&(store, _): &(u8, View)| machine.is_up(store);
     match kind {
@@ -34,7 +35,7 @@ pub fn enabled(machine: &Machine, kind: u8) -> Vec<Step> {
         14 => losses(machine),
         15 => stores(machine, true).map(|store| Step::Crash { store }).collect(),
         16 => stores(machine, false).map(|store| Step::Restart { store }).collect(),
-        17 => stores(machine, true).map(|store| Step::Checkpoint { store }).collect(),
+        18 => duplicates(machine),
         _ => Vec::new(),
     }
 }
@@ -63,7 +64,7 @@ fn timeouts(machine: &Machine) -> Vec<Step> {
 }
 
 /// Where a copy of that message is in flight.
-fn copies(machine: &Machine, what: What) -> impl Iterator<Item = (u8, View)> + '_ {
+pub fn copies(machine: &Machine, what: What) -> impl Iterator<Item = (u8, View)> + '_ {
     machine
         .views()
         .flat_map(|view| (0..machine.store_count).map(move |store| (store, view)))
@@ -75,6 +76,14 @@ fn losses(machine: &Machine) -> Vec<Step> {
         copies(machine, what).map(move |(store, view)| Step::Lose { what: what as u8, store, view })
     };
     What::ALL.into_iter().flat_map(lose).collect()
+}
+
+fn duplicates(machine: &Machine) -> Vec<Step> {
+    let duplicate = |what: What| {
+        let step = move |(store, view)| Step::Duplicate { what: what as u8, store, view };
+        copies(machine, what).map(step)
+    };
+    What::ALL.into_iter().flat_map(duplicate).collect()
 }
 
 fn repairs(machine: &Machine) -> impl Iterator<Item = View> + '_ {

@@ -4,6 +4,7 @@
 //! story misses its aim in some books; the coverage shows that others reach it.
 
 use super::draft::Draft;
+use super::enabled::copies;
 use crate::machine::{members, Phase, View, What, MAX_COPIES, MAX_TRIES};
 use crate::step::Step;
 
@@ -16,6 +17,7 @@ impl Draft {
             What::Record | What::Ack => self.flood_from_actor(view, what),
             What::Update | What::Uack => self.flood_from_coordinator(view, what),
         }
+        self.duplicate_where(what, |_, count| count == MAX_COPIES);
         let steps = self.random.between(0, 60);
         self.run(steps);
     }
@@ -129,6 +131,29 @@ impl Draft {
         self.add_if_taken(Step::Crash { store });
         if self.random.one_in(2) {
             self.add_if_taken(Step::Restart { store });
+        }
+    }
+
+    /// A broker that repeats everything once: whatever a step sends, it sends again.
+    pub fn repeating_broker(&mut self) {
+        let steps = self.random.between(10, 120);
+        for _ in 0..steps {
+            let before = self.machine.clone();
+            self.run(1);
+            for what in What::ALL {
+                self.duplicate_where(what, |(store, view), count| {
+                    count > before.place(store, view).count(what)
+                });
+            }
+        }
+    }
+
+    /// Duplicates a message at each place, with that many copies of it, of which this holds.
+    fn duplicate_where(&mut self, what: What, holds: impl Fn((u8, View), u8) -> bool) {
+        let count = |(store, view)| self.machine.place(store, view).count(what);
+        let places = copies(&self.machine, what).filter(|&at| holds(at, count(at)));
+        for (store, view) in places.collect::<Vec<_>>() {
+            self.add_if_taken(Step::Duplicate { what: what as u8, store, view });
         }
     }
 

@@ -3,16 +3,20 @@
 use std::fs;
 use std::path::{Path, PathBuf};
 
+use peer::book::Book;
 use peer::lineage::lineage;
+use peer::machine::What;
 use peer::pair::pair;
 use peer::programs::{inspect, recorder};
+use peer::step::Step;
 use peer::text;
 
-const EXAMPLES: [&str; 8] = [
+const EXAMPLES: [&str; 9] = [
     "crash-and-restart",
     "lost-acknowledgement",
     "lost-before-checkpoint",
     "lost-record",
+    "repeating-broker",
     "right-pair",
     "rollback",
     "slow-answer",
@@ -75,6 +79,38 @@ fn what_is_lost_before_the_checkpoint_was_never_acknowledged() {
     assert!(inspection.contains("\nCS 2 0 0 0 7 0\nCL 2 0 0 1\n"));
     assert!(inspection.contains("\nCS 1 0 1 1 7 0\nCL 1 0 1 2\n"));
     assert!(inspection.contains("\ndrain 0 0\n"));
+}
+
+/// A listing without its line of counts.
+fn view_lines(listing: &str) -> Vec<&str> {
+    listing.lines().skip(1).collect()
+}
+
+/// What `inspect` prints of the views, before and after the drain.
+fn inspected_views(inspection: &str) -> Vec<&str> {
+    let shows_view = |line: &&str| line.starts_with("V ") || line.starts_with('C');
+    inspection.lines().filter(shows_view).collect()
+}
+
+#[test]
+fn a_broker_that_repeats_everything_makes_no_difference_to_the_listing() {
+    let repeating = Book::read(&kept("repeating-broker", "book")).expect("a book");
+    let mut plain = repeating.clone();
+    let mut repeated = [0; What::ALL.len()];
+    plain.steps.retain(|step| match *step {
+        Step::Duplicate { what, .. } => {
+            repeated[usize::from(what)] += 1;
+            false
+        }
+        _ => true,
+    });
+    assert_eq!(repeated, [3, 5, 1, 2]);
+    let (repeating, plain) = (repeating.bytes(), plain.bytes());
+    assert_eq!(view_lines(&recorder(&repeating)), view_lines(&recorder(&plain)));
+    let (repeating, plain) = (inspect(&repeating), inspect(&plain));
+    assert_eq!(inspected_views(&repeating), inspected_views(&plain));
+    assert!(repeating.contains("\ndrain 0 0\n"));
+    assert!(!repeating.contains("\nF "), "every copy was delivered");
 }
 
 #[test]

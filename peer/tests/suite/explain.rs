@@ -105,6 +105,10 @@ fn the_copy_or_entry_that_isnt_there_is_named() {
         ),
         ("take-uack store 1 key 0 role 0", "7: no uack of key 0 role 0 is in flight from store 1"),
         ("lose ack store 1 key 0 role 0", "7: no ack of key 0 role 0 is in flight from store 1"),
+        (
+            "duplicate record store 2 key 0 role 0",
+            "7: no record of key 0 role 0 is in flight to store 2",
+        ),
         ("take-repair key 0 role 1", "7: no repair of key 0 role 1 is in flight"),
         ("send-update key 0 role 1", "7: the coordinator has no entry for key 0 role 1"),
         (

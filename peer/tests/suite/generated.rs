@@ -45,6 +45,18 @@ fn some_hundred_books_cover_everything() {
 }
 
 #[test]
+fn a_third_of_the_books_and_more_repeat_a_message() {
+    let repeats = |seed: &u64| {
+        let Ok(book) = Book::read(&generate(*seed)) else { return false };
+        let mut answers = vec![9; book.steps.len()];
+        let ran = book::run(&book.bytes(), &mut answers).is_ok();
+        let mut taken = book.steps.iter().zip(answers).filter(|(_, answer)| *answer == 0);
+        ran && taken.any(|(step, _)| matches!(step, Step::Duplicate { .. }))
+    };
+    assert!((0..400).filter(repeats).count() * 3 >= 400);
+}
+
+#[test]
 fn no_run_breaks_a_machine() {
     for seed in 0..400 {
         let Ok(book) = Book::read(&generate(seed)) else { continue };

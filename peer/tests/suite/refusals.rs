@@ -2,7 +2,7 @@
 
 use crate::common::{run, M, S};
 use peer::book::{self, Book, MAX_STEPS};
-use peer::machine::{ActorSetup, Machine, View};
+use peer::machine::{ActorSetup, Machine, View, What};
 use peer::refusal::{number, Refusal};
 use peer::step::{fields, Step, KINDS};
 
@@ -84,7 +84,7 @@ fn a_role_and_a_what_can_be_outside_the_machine() {
 }
 
 #[test]
-fn acks_and_losses_dont_need_a_store_that_is_up() {
+fn acks_losses_and_duplicates_dont_need_a_store_that_is_up() {
     let acknowledged = format!(
         "{M}{S}
         pre-check 0
@@ -96,6 +96,7 @@ fn acks_and_losses_dont_need_a_store_that_is_up() {
     );
     assert_eq!(last_answer(&format!("{acknowledged} take-ack store 0 key 0 role 0")), 0);
     assert_eq!(last_answer(&format!("{acknowledged} lose ack store 0 key 0 role 0")), 0);
+    assert_eq!(last_answer(&format!("{acknowledged} duplicate ack store 0 key 0 role 0")), 0);
 }
 
 #[test]
@@ -104,6 +105,40 @@ fn a_checkpoint_needs_a_store_that_is_up() {
     assert_eq!(last_answer(&format!("{M} crash 1 \n checkpoint 1")), 5);
     assert_eq!(last_answer(&format!("{M} crash 1 \n checkpoint 2")), 0);
     assert_eq!(last_answer(&format!("{M} crash 1 \n restart 1 \n checkpoint 1")), 0);
+}
+
+#[test]
+fn a_duplicate_is_refused_as_a_loss_is() {
+    let sent = format!("{M}{S} pre-check 0 \n send-record 0 \n");
+    for (copy, answer) in [
+        ("record store 0 key 0 role 0", 0),
+        ("record store 0 key 0 role 1", 7),
+        ("record store 1 key 0 role 0", 7),
+        ("ack store 0 key 0 role 0", 7),
+        ("uack store 0 key 0 role 0", 7),
+        ("4 store 0 key 0 role 0", 2),
+        ("record store 3 key 0 role 0", 2),
+        ("record store 0 key 1 role 0", 2),
+        ("record store 0 key 0 role 2", 2),
+    ] {
+        for step in ["lose", "duplicate"] {
+            assert_eq!(last_answer(&format!("{sent} {step} {copy}")), answer, "{step} {copy}");
+        }
+    }
+}
+
+#[test]
+fn a_duplicate_at_fifteen_changes_nothing() {
+    let duplicate = "duplicate record store 0 key 0 role 0 \n";
+    let copies = |duplicates: usize| {
+        let (machine, answers) = run(&format!(
+            "{M}{S} pre-check 0 \n send-record 0 \n {}",
+            duplicate.repeat(duplicates)
+        ));
+        assert!(answers.iter().all(|&answer| answer == 0), "{answers:?}");
+        machine.place(0, View::sender(0)).count(What::Record)
+    };
+    assert_eq!([1, 13, 14, 15, 30].map(copies), [2, 14, 15, 15, 15]);
 }
 
 #[test]

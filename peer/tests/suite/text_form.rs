@@ -32,6 +32,9 @@ lose 4 store 0 key 0 role 0
 crash 1
 restart 1
 checkpoint 1
+duplicate record store 0 key 0 role 0
+duplicate uack store 255 key 0 role 1
+duplicate 4 store 0 key 0 role 0
 ";
 
 fn error(text: &str) -> String {

@@ -29,6 +29,7 @@ use Rattle.guarantees.proofs.Sent.{as-sent}
 use Rattle.guarantees.proofs.Walking.{the-walk, every-walk}
 use Rattle.bites.proofs.Further.{bites-further}
 use Rattle.bites.proofs.Checkpoints.{bites-checkpoints}
+use Rattle.bites.proofs.Duplicates.{bites-duplicates}
 use Rattle.bites.proofs.Witnesses.{witnesses, bound-met}
 use Rattle.bites.proofs.Wrong.{bites}
 use Rattle.demands.specs.Demands.{Demands}
@@ -103,6 +104,7 @@ demanded =
       bites = bites;
       bites-further = bites-further;
       bites-checkpoints = bites-checkpoints;
+      bites-duplicates = bites-duplicates;
       bound-met = bound-met;
       fresh-unbroken = fresh-unbroken;
       empty-unbroken = empty-unbroken;

@@ -107,6 +107,12 @@ enum-known-s-17 c = search needs
 of-actor-requires-6 : tie.Need-of-actor-requires-6
 of-actor-requires-6 c κs = search needs
 
+enum-known-s-18 : tie.Need-enum-known-s-18
+enum-known-s-18 c = search needs
+
+of-place-requires-6 : tie.Need-of-place-requires-6
+of-place-requires-6 c κs = search needs
+
 returns : tie.Need-returns
 returns c = c .looking-back .ensures ∙ sym (ap aboutOf (c .before .before .s .given .1))
 
@@ -158,6 +164,9 @@ returns-16 c = c .of-actor5 .ensures ∙ sym (ap aboutOf (c .before .before .s16
 returns-17 : tie.Need-returns-17
 returns-17 c = c .of-actor6 .ensures ∙ sym (ap aboutOf (c .before .before .s17 .given .1))
 
+returns-18 : tie.Need-returns-18
+returns-18 c = c .of-place6 .ensures ∙ sym (ap aboutOf (c .before .before .s18 .given .1))
+
 pub about-of-spec : {M : Type 1} → statement M
 about-of-spec =
     tie.close
@@ -196,6 +205,8 @@ about-of-spec =
     of-actor-requires-5
     enum-known-s-17
     of-actor-requires-6
+    enum-known-s-18
+    of-place-requires-6
     returns
     returns-2
     returns-3
@@ -212,4 +223,5 @@ about-of-spec =
     returns-14
     returns-15
     returns-16
-    returns-17)
+    returns-17
+    returns-18)

@@ -1,4 +1,4 @@
--- Each arm of kinds 9 to 17 is the step that the definition picks, since the tests before it fail. Assumes nothing.
+-- Each arm of kinds 9 to 18 is the step that the definition picks, since the tests before it fail. Assumes nothing.
 use borrow.Author.Tests.{ne-eqb}
 use Rattle.protocol.specs.Book.{repairMade}
 use Rattle.runs.proofs.book.repair_made.Statement.{statement}
@@ -38,7 +38,11 @@ returns-8 c = simp (c .match .keys8)
 
 returns-9 : tie.Need-returns-9
 unfolding repairMade
-returns-9 c = simp (ne-eqb _ _ (c .match .rest .1), ne-eqb _ _ (c .match .rest .0 .1), ne-eqb _ _ (c .match .rest .0 .0 .1), ne-eqb _ _ (c .match .rest .0 .0 .0 .1), ne-eqb _ _ (c .match .rest .0 .0 .0 .0 .1), ne-eqb _ _ (c .match .rest .0 .0 .0 .0 .0 .1), ne-eqb _ _ (c .match .rest .0 .0 .0 .0 .0 .0 .1), ne-eqb _ _ (c .match .rest .0 .0 .0 .0 .0 .0 .0 .1))
+returns-9 c = simp (c .match .keys9)
+
+returns-10 : tie.Need-returns-10
+unfolding repairMade
+returns-10 c = simp (ne-eqb _ _ (c .match .rest .1), ne-eqb _ _ (c .match .rest .0 .1), ne-eqb _ _ (c .match .rest .0 .0 .1), ne-eqb _ _ (c .match .rest .0 .0 .0 .1), ne-eqb _ _ (c .match .rest .0 .0 .0 .0 .1), ne-eqb _ _ (c .match .rest .0 .0 .0 .0 .0 .1), ne-eqb _ _ (c .match .rest .0 .0 .0 .0 .0 .0 .1), ne-eqb _ _ (c .match .rest .0 .0 .0 .0 .0 .0 .0 .1), ne-eqb _ _ (c .match .rest .0 .0 .0 .0 .0 .0 .0 .0 .1))
 
 pub repair-made-spec : {M : Type 1} → statement M
 repair-made-spec =
@@ -52,4 +56,5 @@ repair-made-spec =
     returns-6
     returns-7
     returns-8
-    returns-9)
+    returns-9
+    returns-10)

@@ -110,6 +110,12 @@ enum-known-s-17 c = search needs
 checkpoint-requires : tie.Need-checkpoint-requires
 checkpoint-requires c κs = search needs
 
+enum-known-s-18 : tie.Need-enum-known-s-18
+enum-known-s-18 c = search needs
+
+duplicate-requires : tie.Need-duplicate-requires
+duplicate-requires c κs = search needs
+
 returns : tie.Need-returns
 returns c = λ m h. rw (c .before .before .s .given .1) (c .send .ensures m (rw (c .before .before .s .given .1) at h))
 
@@ -161,6 +167,9 @@ returns-16 c = λ m h. rw (c .before .before .s16 .given .1) (c .restart .ensure
 returns-17 : tie.Need-returns-17
 returns-17 c = λ m h. rw (c .before .before .s17 .given .1) (c .checkpoint .ensures m _ (rw (c .before .before .s17 .given .1) at h))
 
+returns-18 : tie.Need-returns-18
+returns-18 c = λ m h. rw (c .before .before .s18 .given .1) (c .duplicate .ensures m _ _ _ (rw (c .before .before .s18 .given .1) at h))
+
 pub rule-spec : {M : Type 1} → statement M
 rule-spec =
     tie.close
@@ -199,6 +208,8 @@ rule-spec =
     restart-requires
     enum-known-s-17
     checkpoint-requires
+    enum-known-s-18
+    duplicate-requires
     returns
     returns-2
     returns-3
@@ -215,4 +226,5 @@ rule-spec =
     returns-14
     returns-15
     returns-16
-    returns-17)
+    returns-17
+    returns-18)
