@@ -1,7 +1,9 @@
 // The types of the first PReP's provenance store (document 003), and no function: a message, the tables, what is answered.
 
+#![tactic(auto)]
+
 // ACTIVITYID, which identifies one exchange between a client and a service.
-#[derive(Drop)]
+#[derive(Clone, Copy)]
 pub struct Activity {
     pub session: u32,
     pub nonce: u32,
@@ -11,7 +13,7 @@ pub struct Activity {
 }
 
 // What a message says: the five kinds that a provenance store takes, each with its fields (Figure 3).
-#[derive(Drop)]
+#[derive(Clone, Copy)]
 pub enum Said {
     Negotiation {
         list: u32,
@@ -34,7 +36,7 @@ pub enum Said {
     },
 }
 
-#[derive(Drop)]
+#[derive(Clone, Copy)]
 pub struct Message {
     pub sender: u32,
     pub activity: Activity,
@@ -42,7 +44,7 @@ pub struct Message {
 }
 
 // What a table has of a kind: nothing, or the fields of the message that was taken.
-#[derive(Drop)]
+#[derive(Clone, Copy)]
 pub struct Negotiated {
     pub held: bool,
     pub list: u32,
@@ -51,7 +53,7 @@ pub struct Negotiated {
 }
 
 // An invocation or a result.
-#[derive(Drop)]
+#[derive(Clone, Copy)]
 pub struct Transmitted {
     pub held: bool,
     pub extra: u32,
@@ -59,21 +61,21 @@ pub struct Transmitted {
 }
 
 // A submission finished, with the number of messages that it announces.
-#[derive(Drop)]
+#[derive(Clone, Copy)]
 pub struct Announced {
     pub held: bool,
     pub count: u32,
 }
 
 // The additional messages, in the order taken.
-#[derive(Drop)]
+#[derive(Clone, Copy)]
 pub struct Added {
     pub count: u8,
     pub extras: [u32; 8],
 }
 
 // An activity's row in the client table, or in the service table.
-#[derive(Drop)]
+#[derive(Clone, Copy)]
 pub struct Side {
     pub negotiation: Negotiated,
     pub invocation: Transmitted,
@@ -83,7 +85,7 @@ pub struct Side {
 }
 
 // An activity with its row in each table.
-#[derive(Drop)]
+#[derive(Clone, Copy)]
 pub struct Exchange {
     pub activity: Activity,
     pub client: Side,
@@ -91,14 +93,14 @@ pub struct Exchange {
 }
 
 // The activities, in the order of their first taken message.
-#[derive(Drop)]
+#[derive(Clone, Copy)]
 pub struct Store {
     pub used: u8,
     pub exchanges: [Exchange; 16],
 }
 
 // The acknowledgement of one message (Figure 2), or none. A submission finished has none by itself.
-#[derive(Drop)]
+#[derive(Clone, Copy)]
 pub enum Ack {
     NoAck,
     NegotiationAck,
@@ -108,14 +110,14 @@ pub enum Ack {
 }
 
 // To whom the submission finished acknowledgement goes now.
-#[derive(Drop)]
+#[derive(Clone, Copy)]
 pub struct Finishing {
     pub client: bool,
     pub service: bool,
 }
 
 // What is answered: 0, 17 or 18; the message's own acknowledgement; the submission finished acknowledgements.
-#[derive(Drop)]
+#[derive(Clone, Copy)]
 pub struct Received {
     pub store: Store,
     pub answer: u8,

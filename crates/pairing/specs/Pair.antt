@@ -1,5 +1,5 @@
 -- The pair rule, old and new (document 02, K10): a model and its scaler travel together, and so must their records.
-use Rattle.std.specs.Prelude.{ℕ, zero, suc, ◌+◌, ◌/◌, ◌%◌, Bool, true, false, ◌&&◌, ◌||◌, not, List, leb, ltb, eqb, get_or}
+use Rattle.std.specs.Prelude.{ℕ, zero, suc, ◌+◌, ◌/◌, ◌%◌, Bool, false, ◌&&◌, ◌||◌, not, List, leb, ltb, eqb, get_or}
 use Rattle.protocol.specs.Words.{pick, bit, one, table, all_below}
 use Rattle.protocol.specs.Slots.{number, view, lasting_contents, no_contents}
 use Rattle.protocol.specs.Walk.{walk_of}

@@ -1,5 +1,5 @@
 -- Step 1, send: from, to, own store, data, causes.
-use Rattle.std.specs.Prelude.{ℕ, ◌+◌, Bool, true, false, ◌&&◌, ◌||◌, not, set, ltb, leb, eqb}
+use Rattle.std.specs.Prelude.{ℕ, ◌+◌, Bool, true, ◌&&◌, ◌||◌, not, set, ltb, leb, eqb}
 use Rattle.protocol.specs.Words.{pick, bit, table, all_below}
 use Rattle.protocol.specs.Views.{unset_view, first_view}
 use Rattle.protocol.specs.Slots.{number, home, list, queue, view}

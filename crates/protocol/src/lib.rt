@@ -2,12 +2,14 @@
 //
 // A view's number is key * 2 + role; a place is store * 32 + view's number.
 
+#![tactic(auto)]
+
 ghost use Rattle.std.specs.Prelude.{◌≡◌};
 ghost use Rattle.protocol.specs.Numbers.{status_number};
 ghost use Rattle.protocol.specs.Views.{unset_view};
 
 // A view's record at its actor. In phase 0 only the actor is set.
-#[derive(Drop)]
+#[derive(Clone, Copy)]
 pub struct View {
     pub actor: u8,
     pub phase: u8,
@@ -42,14 +44,14 @@ pub fn unset_view(actor: u8) -> View
 }
 
 // An actor's queue: views' numbers, oldest first.
-#[derive(Drop)]
+#[derive(Clone, Copy)]
 pub struct Queue {
     pub len: u8,
     pub views: [u8; 16],
 }
 
 // What a store holds of a view's record: an asserter, a data word and causes; zeros where neither of its states has it.
-#[derive(Drop)]
+#[derive(Clone, Copy)]
 pub struct Contents {
     pub asserter: u8,
     pub causes: u16,
@@ -57,14 +59,14 @@ pub struct Contents {
 }
 
 // The cause links of a sender's contents.
-#[derive(Drop)]
+#[derive(Clone, Copy)]
 pub struct Links {
     pub to: [u8; 16],
 }
 
 // A store: up or down; its working state, its checkpointed one and the notes that it owes. Sets of views have bit v for view v;
 // a viewlink is 0 for none and p + 1 for store p.
-#[derive(Drop)]
+#[derive(Clone, Copy)]
 pub struct Store {
     pub up: bool,
     // The views whose contents it has, working and checkpointed.
@@ -79,7 +81,7 @@ pub struct Store {
 }
 
 // An application message: nothing, or the own store and data word that were sent.
-#[derive(Drop)]
+#[derive(Clone, Copy)]
 pub struct Message {
     pub flying: bool,
     pub own: u8,
@@ -87,14 +89,14 @@ pub struct Message {
 }
 
 // A repair: nothing, or a destination and an own store.
-#[derive(Drop)]
+#[derive(Clone, Copy)]
 pub struct Repair {
     pub flying: bool,
     pub destination: u8,
     pub own: u8,
 }
 
-#[derive(Drop)]
+#[derive(Clone, Copy)]
 pub enum Status {
     Nothing,
     ToSend,
@@ -115,14 +117,14 @@ pub fn status_number(s: Status) -> u8
 }
 
 // The coordinator's state for a view.
-#[derive(Drop)]
+#[derive(Clone, Copy)]
 pub struct Entry {
     pub status: Status,
     pub destination: u8,
     pub own: u8,
 }
 
-#[derive(Drop)]
+#[derive(Clone, Copy)]
 pub struct State {
     // How many there are of each.
     pub stores: u8,
@@ -150,7 +152,7 @@ pub struct State {
 }
 
 // What a setup is made from: rows behind the last actor are not looked at.
-#[derive(Drop)]
+#[derive(Clone, Copy)]
 pub struct Setup {
     pub stores: u8,
     pub actors: u8,
@@ -159,7 +161,7 @@ pub struct Setup {
 }
 
 // A step is one of eighteen kinds, each with its own fields.
-#[derive(Drop)]
+#[derive(Clone, Copy)]
 pub enum Step {
     Send {
         from: u8,
@@ -240,14 +242,14 @@ pub enum Step {
 }
 
 // What stands at a place of a book: a step and the place behind it, or none.
-#[derive(Drop)]
+#[derive(Clone, Copy)]
 pub enum Read {
     Got(Step, usize),
     Bad,
 }
 
 // What a run of a book gives.
-#[derive(Drop)]
+#[derive(Clone, Copy)]
 pub struct Ran {
     pub state: State,
     pub answer: u8,
@@ -256,14 +258,14 @@ pub struct Ran {
 }
 
 // What the drain does next.
-#[derive(Drop)]
+#[derive(Clone, Copy)]
 pub enum Turn {
     Take(Step),
     Rest,
 }
 
 // What a drain gives.
-#[derive(Drop)]
+#[derive(Clone, Copy)]
 pub struct Drained {
     pub state: State,
     pub answer: u8,
@@ -271,7 +273,7 @@ pub struct Drained {
 }
 
 // The keys met so far, in the order first met; fine until one isn't closed or an entry or link is missing.
-#[derive(Drop)]
+#[derive(Clone, Copy)]
 pub struct Met {
     pub fine: bool,
     pub met: [bool; 16],
@@ -282,7 +284,7 @@ pub struct Met {
 }
 
 // What a walk answers: no keys and no lookups where it is refused.
-#[derive(Drop)]
+#[derive(Clone, Copy)]
 pub struct Walked {
     pub answer: u8,
     pub keys: [u8; 16],
@@ -291,7 +293,7 @@ pub struct Walked {
 }
 
 // An interaction as its sender record states it: its key, who sent it, and its causes, bit k for interaction k.
-#[derive(Drop)]
+#[derive(Clone, Copy)]
 pub struct Interaction {
     pub key: u8,
     pub sender: u8,
@@ -299,7 +301,7 @@ pub struct Interaction {
 }
 
 // What writing into a lent buffer gives: the count of bytes, 0 where it is refused.
-#[derive(Drop)]
+#[derive(Clone, Copy)]
 pub struct Written {
     pub answer: u8,
     pub len: u16,
