@@ -1,6 +1,6 @@
 -- How long a text can be: each interaction has its own weight, at most that of all causes below it; distinct keys below
 -- sixteen weigh at most what all sixteen do, and each of eight actors is declared at most once. Assumes nothing.
-use Prim.Native.Nat.{ℕ, zero, suc, ◌+◌, ◌*◌, ◌-◌, ◌≤◌, ◌<◌}
+use Prim.Native.Nat.{ℕ, zero, suc, ◌+◌, ◌*◌, ◌≤◌, ◌<◌}
 use mathlib.Core.Path.{◌≡◌, refl, sym, ap, ◌∙◌}
 use mathlib.Core.Bool.{Bool, true, false}
 use mathlib.Core.List.{List, [], ◌∷◌, ◌++◌, map}
@@ -138,10 +138,10 @@ sum_one f x (suc n) h =
     ]
 
 -- what keys weigh, counted by number
-weights_counted : {keys : List ℕ} {n : ℕ} → Each (λ i. i < n) keys → weights keys ≡ sum (λ i. times i keys * weight i) n
+weights_counted : {n : ℕ} {keys : List ℕ} → Each (λ i. i < n) keys → weights keys ≡ sum (λ i. times i keys * weight i) n
 unfolding weights times
-weights_counted {n = n} none = sym (sum_zero weight n)
-weights_counted {n = n} (more {x = x} {l = keys} h rest) =
+weights_counted {n} none = sym (sum_zero weight n)
+weights_counted {n} (more {x = x} {l = keys} h rest) =
     let both = sum_add (λ i. one (eqb x i) * weight i) (λ i. times i keys * weight i) (λ i. (one (eqb x i) + times i keys) * weight i) (λ i. add-mul (one (eqb x i)) (times i keys) (weight i)) n in
     omega (arith, both, sum_one weight x n h, weights_counted rest)
 

@@ -1,1 +1,10 @@
-// What the first PReP's store promises of whole runs: specs/Promises.antt states it, proofs/Promises.antt proves it.
+// The laws of the first PReP's store: definitions and proofs, and one function whose promise is all of them.
+
+#![tactic(auto)]
+
+ghost use Rattle.completes.specs.Promises.{Promises};
+
+#[tactic(auto, using(crate::proofs::Promises::promises))]
+pub fn laws()
+    ensures { Promises }
+{}

@@ -1,1 +1,12 @@
 // The promises of `completes` bite: runs on which their premises hold, and wrong stores by which they fail.
+
+#![tactic(auto)]
+
+ghost use Rattle.completes_bites.specs.Witnesses.{Witnesses};
+ghost use Rattle.completes_bites.specs.Wrong.{Wrong};
+
+#[tactic(auto, using(crate::proofs::Witnesses::witnesses, crate::proofs::Wrong::wrong))]
+pub fn laws()
+    ensures witnesses { Witnesses }
+    ensures wrong { Wrong }
+{}

@@ -1,1 +1,3 @@
 // The laws of the drain: theorems over its definition, and no code.
+
+#![tactic(auto)]

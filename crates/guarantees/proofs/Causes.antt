@@ -33,10 +33,12 @@ pub data Ahead (x y : ℕ) : List ℕ → Type 0 where
   there : {z : ℕ} {l : List ℕ} → Ahead x y l → Ahead x y (z ∷ l)
 
 in_longer : (y z : ℕ) (l : List ℕ) → In y l → In y (l ++ (z ∷ []))
+in_longer y z [] x' = elim x' [ ]
 in_longer y z (x ∷ l) first = first
 in_longer y z (x ∷ l) (later i) = later (in_longer y z l i)
 
 pub ahead_longer : (x y z : ℕ) (l : List ℕ) → Ahead x y l → Ahead x y (l ++ (z ∷ []))
+ahead_longer x y z [] x'' = elim x'' [ ]
 ahead_longer x y z (w ∷ l) (here i) = here (in_longer y z l i)
 ahead_longer x y z (w ∷ l) (there i) = there (ahead_longer x y z l i)
 
@@ -46,6 +48,7 @@ in_last z (x ∷ l) = later (in_last z l)
 
 -- whoever stands in a queue stands ahead of who joins it
 pub ahead_last : (x z : ℕ) (l : List ℕ) → In x l → Ahead x z (l ++ (z ∷ []))
+ahead_last x z [] x'' = elim x'' [ ]
 ahead_last x z (w ∷ l) first = here (in_last z l)
 ahead_last x z (w ∷ l) (later i) = there (ahead_last x z l i)
 
@@ -56,6 +59,7 @@ ahead_shorter x y z l n (there i) = i
 -- how often it stands there
 in_times : (y : ℕ) (l : List ℕ) → In y l → 1 ≤ times y l
 unfolding times
+in_times y [] x' = elim x' [ ]
 in_times y (z ∷ l) first = rw (eq-eqb y y refl) (omega arith)
 in_times y (z ∷ l) (later i) = let h = in_times y l i in omega arith
 
@@ -69,6 +73,7 @@ times_in_holds y (z ∷ l) h = go (eqb z y) refl (λ g. times_in_holds y l g)
     go false e f = later (f (let g : 1 ≤ one false + times y l = rw e at h in omega arith))
 
 ahead_in : (x y : ℕ) (l : List ℕ) → Ahead x y l → In y l
+ahead_in x y [] x'' = elim x'' [ ]
 ahead_in x y (z ∷ l) (here i) = later i
 ahead_in x y (z ∷ l) (there i) = later (ahead_in x y l i)
 

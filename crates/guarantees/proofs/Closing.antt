@@ -12,7 +12,6 @@ use Rattle.protocol.specs.Closed.{rests_of, closed_of}
 use Rattle.unbroken.specs.Unbroken.{Unbroken}
 use Rattle.protocol.specs.declared.State.{State}
 use Rattle.unbroken.proofs.Laws.Room.{stores8, made_view_holds}
-use Rattle.protocol.specs.Send.{sent}
 use Rattle.guarantees.proofs.Local.{Job, Cell, Good, none}
 use Rattle.guarantees.proofs.Whole.{Everywhere}
 use Rattle.guarantees.proofs.Heads.{and_true}

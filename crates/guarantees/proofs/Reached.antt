@@ -5,7 +5,7 @@ use mathlib.Core.Path.{◌≡◌, refl, sym, ap, ◌∙◌, subst}
 use mathlib.Core.Logic.{◌≢◌}
 use mathlib.Core.Bool.{true, false}
 use mathlib.Core.List.{List, [], ◌∷◌, ◌++◌}
-use Prim.Native.Nat.{ℕ, ◌+◌, ◌-◌, ◌≤◌, ◌<◌}
+use Prim.Native.Nat.{ℕ, ◌+◌, ◌≤◌, ◌<◌}
 use native.Mathlib.Omega.{arith}
 use native.Mathlib.Decide.{dec_lt}
 use lib.ListN.{get_or, set, length-set}
@@ -19,7 +19,7 @@ use Rattle.protocol.specs.Outcome.{Outcome}
 use Rattle.unbroken.proofs.Laws.{unbroken, bounds}
 use Rattle.unbroken.proofs.Laws.Every.{table_at}
 use Rattle.unbroken.proofs.Laws.Room.{actors8, sender_made_holds}
-use Rattle.protocol.specs.Send.{send_no, sent, sent_view, awaited_view, joined, home_link, received}
+use Rattle.protocol.specs.Send.{send_no, sent, sent_view, awaited_view, joined, home_link}
 use Rattle.protocol.specs.Step.{number_of, after_of}
 use Rattle.protocol.specs.declared.Step.{Step}
 use Rattle.protocol.specs.declared.Step.TheVariants.{Send}

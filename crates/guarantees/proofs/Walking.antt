@@ -14,7 +14,6 @@ use lib.ListN.{get_or, take}
 use lib.Seq.{get_or-set_other}
 use Rattle.protocol.specs.Words.{pick, bit, one, times}
 use Rattle.protocol.specs.Slots.{number, view, is_lasting, lasting_contents, lasting_cause_links, home, queue, standing}
-use Rattle.protocol.specs.Setup.{answered}
 use Rattle.protocol.specs.Closed.{closed_of}
 use Rattle.unbroken.specs.Unbroken.{Unbroken}
 use Rattle.protocol.specs.declared.State.{State}

@@ -1,15 +1,14 @@
 -- The runs are computed, with their drain and the walk of the forecast; a wrong check says of the sends what is not so. Assumes nothing.
-use Prim.Native.Nat.{ℕ, ◌+◌, ◌<◌}
+use Prim.Native.Nat.{ℕ, ◌<◌}
 use native.Mathlib.Omega.{arith}
-use mathlib.Core.Path.{◌≡◌, refl, sym, ap, ◌∙◌, subst}
+use mathlib.Core.Path.{◌≡◌, refl, sym, ap, ◌∙◌}
 use mathlib.Core.Logic.{◌≢◌}
 use mathlib.Core.Bool.{Bool, true, false}
 use mathlib.Core.List.{List, ◌++◌}
 use lib.Dec.{leb}
-use Rattle.protocol.specs.Words.{pick, bit, all_from, table, all_below}
+use Rattle.protocol.specs.Words.{pick, all_from, table, all_below}
 use Rattle.protocol.specs.Slots.{number, view}
 use Rattle.protocol.specs.Setup.{fresh_with}
-use Rattle.protocol.specs.Broken.{broken_of}
 use Rattle.protocol.specs.Closed.{closed_of}
 use Rattle.protocol.specs.declared.State.{State}
 use Rattle.protocol.specs.declared.Walked.{Walked}
@@ -33,10 +32,10 @@ use Rattle.protocol.specs.Restart.{restart_no, restarted}
 use Rattle.protocol.specs.Checkpoint.{checkpoint_no, checkpointed}
 use Rattle.protocol.specs.declared.Step.{Step}
 use Rattle.protocol.specs.Drain.{lowest, job_step, entry_step, turn_of, all_up, drain_of}
-use Rattle.protocol.specs.Walk.{found_of, receipt_of, hop_of, each, visit_of, unmet, walked_from, refused_walk, answer_of, walk_of}
+use Rattle.protocol.specs.Walk.{found_of, receipt_of, hop_of, each, visit_of, walked_from, refused_walk, answer_of, walk_of}
 use Rattle.guarantees.specs.Acknowledged.{after}
 use Rattle.guarantees.specs.Sent.{sent_as}
-use Rattle.guarantees.specs.Guarantees.{SentCause, SentReach}
+use Rattle.guarantees.specs.Guarantees.{SentReach}
 use Rattle.guarantees.proofs.Sent.{told}
 use Rattle.bites.specs.Setting.{M}
 use Rattle.bites.proofs.Ruled.{ruled, ran_ruled}
@@ -45,7 +44,7 @@ use Rattle.bites.proofs.Witnesses.{legal_M}
 use Rattle.bites.proofs.Further.{ruled_run, whole, drained_run_holds, caused}
 use Rattle.pairing.specs.declared.Checked.{Checked}
 use Rattle.pairing.specs.Pair.{kind_of, bundle_of, record_of, is_rule, counted, last_sender, rule_one, two_adds, rule_two, passes_of, refused_check, answered_check, checked_of, check_of}
-use Rattle.pairs.specs.Pairs.{Rule, old, Part, scaler, RightPair, AfterDrain}
+use Rattle.pairs.specs.Pairs.{old, scaler}
 use Rattle.pair_bites.specs.Bites.{right_pair, mixed_pair, two_scalers, behind_the_weights, Says, direct_by, direct_check, receipt_by, receipt_check, any_by, any_check, BreaksAfterDrain, PairBites}
 
 -- the machine that the drain gives, and the walk of a key in it, computed without the test for a broken value

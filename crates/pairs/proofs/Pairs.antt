@@ -1,9 +1,9 @@
 -- The laws of the pair rule: the refusals by its tests; what it says of the sends by the guarantees, since an answered walk meets
 -- what leads to its key over the causes as sent, all of it closed, and closed records say what was sent. Assumes nothing.
-use Prim.Native.Nat.{ℕ, ◌+◌, ◌≤◌, ◌<◌}
+use Prim.Native.Nat.{ℕ, ◌≤◌, ◌<◌}
 use mathlib.Core.Path.{◌≡◌, refl, sym, ap, subst, ◌∙◌}
 use mathlib.Core.Logic.{◌≢◌}
-use mathlib.Core.Bool.{Bool, true, false, ◌&&◌, false≢true}
+use mathlib.Core.Bool.{Bool, true, false, ◌&&◌}
 use mathlib.Core.List.{List, [], ◌++◌, append-nil}
 use native.Mathlib.Omega.{arith}
 use lib.Dec.{eqb}
@@ -16,10 +16,9 @@ use Rattle.protocol.specs.declared.State.{State}
 use Rattle.protocol.specs.declared.Setup.{Setup}
 use Rattle.protocol.specs.declared.Step.{Step}
 use Rattle.protocol.specs.Run.{fresh_of}
-use Rattle.protocol.specs.Drain.{all_up, drain_of}
 use Rattle.protocol.specs.Walk.{walk_of}
 use Rattle.unbroken.proofs.Laws.{unbroken}
-use Rattle.unbroken.proofs.Laws.Tests.{and_left, nor_both, not_both, by_test}
+use Rattle.unbroken.proofs.Laws.Tests.{and_left, nor_both}
 use Rattle.unbroken.proofs.Laws.Has.{has_kept}
 use Rattle.reads.proofs.Some.{ran_append}
 use Rattle.drains.specs.Drains.{steps_of}
@@ -33,7 +32,7 @@ use Rattle.guarantees.proofs.Drained.{the_drain}
 use Rattle.guarantees.proofs.Walking.{of_sent, reach_made, reach_on, reach_off, every_walk, the_walk}
 use Rattle.pairing.specs.declared.Checked.{Checked}
 use Rattle.pairing.specs.Pair.{kind_of, bundle_of, record_of, met_of, is_a, is_rule, rule_one, two_adds, rule_two, passes_of, refused_check, answered_check, checked_of, check_of}
-use Rattle.pairs.specs.Pairs.{Rule, old, new, TwoThenOne, Refuses, RightPair, Speaks, AsSent, Lasts, AfterDrain, ThePairRule}
+use Rattle.pairs.specs.Pairs.{Rule, old, new, TwoThenOne, Refuses, Speaks, AsSent, Lasts, AfterDrain, ThePairRule}
 use Rattle.pairs.proofs.Passing.{walked, rule_tells, rule_told}
 
 -- the check's shape: a rule or none, the walk's number, a forecast or none

@@ -1,14 +1,14 @@
 -- Rule one on a machine whose walk is answered, whose keys are those that lead to the forecast, and whose records say what was
 -- sent: it passes exactly if the pair as sent is right. Assumes nothing.
 use Prim.Native.Nat.{ℕ, ◌+◌, ◌≤◌, ◌<◌}
-use mathlib.Core.Path.{◌≡◌, refl, sym, ap, subst, ◌∙◌}
-use mathlib.Core.Bool.{Bool, true, false, ◌&&◌, ◌||◌, not, false≢true}
+use mathlib.Core.Path.{◌≡◌, refl, sym, ap, ◌∙◌}
+use mathlib.Core.Bool.{Bool, true, false, ◌&&◌, not}
 use mathlib.Core.List.{List}
 use native.Mathlib.Omega.{arith}
 use lib.Dec.{leb, ltb, eqb}
 use lib.ListN.{length, get_or}
-use borrow.Author.Tests.{ltb-true, lt-ltb, leb-true, le-leb, eqb-true, eq-eqb, eqb-false}
-use Rattle.protocol.specs.Words.{pick, times, all_below}
+use borrow.Author.Tests.{ltb-true, lt-ltb, leb-true, le-leb, eqb-true, eq-eqb}
+use Rattle.protocol.specs.Words.{pick, times}
 use Rattle.protocol.specs.Slots.{number, view, no_contents}
 use Rattle.protocol.specs.declared.State.{State}
 use Rattle.protocol.specs.declared.Setup.{Setup}
@@ -27,9 +27,9 @@ use Rattle.reaches.proofs.Visited.{visited}
 use Rattle.reaches.proofs.Laws.{Answer, refusing, answering, answer}
 use Rattle.guarantees.specs.Sent.{sent_as}
 use Rattle.guarantees.specs.Guarantees.{SentReach}
-use Rattle.pairing.specs.Pair.{kind_of, bundle_of, record_of, met_at, met_of, is_a, is_part, counted, how_many, has_bundle, all_have, rule_one}
+use Rattle.pairing.specs.Pair.{kind_of, bundle_of, record_of, met_at, met_of, is_a, is_part, how_many, has_bundle, all_have, rule_one}
 use Rattle.pairs.specs.Pairs.{Part, weights, scaler, SentKind, RightPair}
-use Rattle.pairs.proofs.Places.{Place, counted_at, at_counted, Among, among, some_among}
+use Rattle.pairs.proofs.Places.{counted_at, at_counted, Among, among, some_among}
 
 -- an answered walk has at most sixteen keys, in sixteen places; its machine is not broken and has the key
 pub record Walk (m : State) (k : ℕ) : Type 0 where

@@ -8,7 +8,7 @@ use lib.ListN.{get_or}
 use Rattle.protocol.specs.Words.{pick, bit}
 use Rattle.protocol.specs.declared.State.{State}
 use Rattle.protocol.specs.declared.Met.{Met}
-use Rattle.protocol.specs.Walk.{added, spoiled, looked_up, found_of, causes_held, hop_of, each, is_due, to_cause, visit_of}
+use Rattle.protocol.specs.Walk.{added, looked_up, found_of, causes_held, hop_of, each, is_due, to_cause, visit_of}
 use Rattle.unbroken.proofs.Laws.Tests.{and_left}
 use Rattle.reaches.specs.Tally.{Looked}
 

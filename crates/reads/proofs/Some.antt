@@ -8,8 +8,8 @@ use native.Mathlib.Numerals.{add-one}
 use native.Mathlib.Omega.{arith}
 use native.Mathlib.Nat.{add_assoc, le_antisymm, zero-add}
 use lib.Dec.{eqb}
-use lib.ListN.{length, take, drop, get_or, set, length-set, length-append, length-drop}
-use lib.Seq.{sets, sets-eq, take-suc-set, append_snoc, drop-cons, get_or-take, get_or-drop, length-take-le, drop-length, take_at, drop_at}
+use lib.ListN.{length, take, drop, get_or, set, length-set, length-append}
+use lib.Seq.{sets, sets-eq, take-suc-set, append_snoc, drop-cons, get_or-take, length-take-le, drop-length, take_at, drop_at}
 use Rattle.protocol.specs.Words.{one, times}
 use Rattle.protocol.specs.Broken.{broken_of}
 use Rattle.protocol.specs.declared.State.{State}

@@ -1,1 +1,3 @@
 // The laws of a value that is not broken: definitions and proofs only, no function.
+
+#![tactic(auto)]

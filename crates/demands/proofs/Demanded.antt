@@ -1,4 +1,4 @@
--- `demands::demands` meets its contract: each statement from its theorem. Assumes nothing.
+-- Every statement of the three demands, each from its theorem. Assumes nothing.
 use Rattle.unbroken.proofs.Laws.Applies.{setup_refusals, refused_setup}
 use Rattle.unbroken.proofs.Laws.Empty.{one_empty}
 use Rattle.unbroken.proofs.Laws.Fresh.{fresh_unbroken, empty_unbroken, fresh_blank}
@@ -33,10 +33,8 @@ use Rattle.bites.proofs.Duplicates.{bites_duplicates}
 use Rattle.bites.proofs.Witnesses.{witnesses, bound_met}
 use Rattle.bites.proofs.Wrong.{bites}
 use Rattle.demands.specs.Demands.{Demands}
-use Rattle.demands.proofs.demands.Statement.{statement}
-use Rattle.demands.proofs.demands.Tie as tie
 
-demanded : Demands
+pub demanded : Demands
 demanded =
     record {
       every_call = every_call;
@@ -128,9 +126,3 @@ demanded =
       keys_looked_up = keys_looked_up;
       lookups_exactly = lookups_exactly;
     }
-
-returns : tie.Need-returns
-returns c = demanded
-
-pub demands_spec : {M : Type 1} → statement M
-demands_spec = tie.close (tie.spec returns)
