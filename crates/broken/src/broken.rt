@@ -18,6 +18,7 @@ pub(crate) fn both(a: bool, b: bool) -> bool
 }
 
 // Legal, or the empty machine's.
+#[tactic(auto, unfolding(protocol::specs::Broken::setup_fine))]
 fn setup_fine(stores: u8, actors: u8, homes: [u8; 8], lists: [u8; 8]) -> bool
     ensures { result ≡ setup_fine stores actors homes lists }
 {
@@ -29,6 +30,7 @@ fn setup_fine(stores: u8, actors: u8, homes: [u8; 8], lists: [u8; 8]) -> bool
 }
 
 // The views with their queues, messages, repairs and entries.
+#[tactic(auto, unfolding(protocol::specs::Broken::jobs_fine), using(crate::proofs::Marked::jobs_marked))]
 fn jobs_fine(m: State) -> bool
     ensures { result ≡ jobs_fine m }
 {
@@ -51,6 +53,7 @@ fn jobs_fine(m: State) -> bool
 }
 
 // Every place of a store: copies in flight, and what it holds.
+#[tactic(auto, unfolding(protocol::specs::Broken::places_fine), using(crate::proofs::Members::beside, crate::proofs::Members::contents_same, crate::proofs::Members::links_same, crate::proofs::Rooms::four))]
 fn places_fine(m: State) -> bool
     ensures { result ≡ places_fine m }
 {

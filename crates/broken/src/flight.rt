@@ -23,6 +23,7 @@ fn message_fine(stores: u8, due: bool, g: Message) -> bool
     both(g.own == 0, g.word == 0)
 }
 
+#[tactic(auto, unfolding(protocol::specs::Broken::message_fine), using(unbroken::proofs::Pass::pass_end, unbroken::proofs::Pass::pass_start, unbroken::proofs::Pass::pass_step, unbroken::proofs::Pass::pass_stop))]
 pub(crate) fn messages_fine(
     stores: u8,
     made: u8,
@@ -54,6 +55,7 @@ fn pair_fine(stores: u8, there: bool, settled: bool, destination: u8, own: u8) -
     both(destination == 0, own == 0)
 }
 
+#[tactic(auto, unfolding(protocol::specs::Broken::repair_fine), using(unbroken::proofs::Pass::pass_end, unbroken::proofs::Pass::pass_start, unbroken::proofs::Pass::pass_step, unbroken::proofs::Pass::pass_stop))]
 pub(crate) fn repairs_fine(stores: u8, views: [View; 32], repairs: [Repair; 32]) -> bool
     ensures { result ≡ all (repair_fine stores views) repairs }
 {
@@ -78,6 +80,7 @@ pub(crate) fn has_entry(e: Entry) -> bool
     1 <= status_number(status)
 }
 
+#[tactic(auto, unfolding(protocol::specs::Broken::entry_fine), using(crate::proofs::Statuses::pick_there, unbroken::proofs::Pass::pass_end, unbroken::proofs::Pass::pass_start, unbroken::proofs::Pass::pass_step, unbroken::proofs::Pass::pass_stop))]
 pub(crate) fn entries_fine(stores: u8, views: [View; 32], entries: [Entry; 32]) -> bool
     ensures { result ≡ all (entry_fine stores views) entries }
 {
@@ -104,6 +107,7 @@ fn record_room(phase: u8) -> u8
     15
 }
 
+#[tactic(auto, using(unbroken::proofs::Fill::fill_end, unbroken::proofs::Fill::fill_start, unbroken::proofs::Fill::fill_step))]
 fn record_rooms(views: [View; 32]) -> [u8; 32]
     ensures { result ≡ table (record_room views) 32 }
 {
@@ -127,6 +131,7 @@ fn update_room(there: bool) -> u8
     0
 }
 
+#[tactic(auto, using(unbroken::proofs::Fill::fill_end, unbroken::proofs::Fill::fill_start, unbroken::proofs::Fill::fill_step))]
 fn update_rooms(entries: [Entry; 32]) -> [u8; 32]
     ensures { result ≡ table (update_room entries) 32 }
 {
@@ -140,6 +145,7 @@ fn update_rooms(entries: [Entry; 32]) -> [u8; 32]
     rooms
 }
 
+#[tactic(auto, unfolding(protocol::specs::Broken::records_fine), using(crate::proofs::Rooms::rooms_both))]
 pub(crate) fn records_fine(
     stores: u8,
     views: [View; 32],
@@ -152,6 +158,7 @@ pub(crate) fn records_fine(
     both(within(stores, rooms, records), within(stores, rooms, acks))
 }
 
+#[tactic(auto, unfolding(protocol::specs::Broken::updates_fine), using(crate::proofs::Rooms::rooms_both))]
 pub(crate) fn updates_fine(
     stores: u8,
     entries: [Entry; 32],

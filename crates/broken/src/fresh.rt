@@ -22,6 +22,7 @@ fn stores_in(list: u8) -> u8
         + list / 128 % 2
 }
 
+#[tactic(auto, unfolding(protocol::specs::Setup::legal_actor), using(unbroken::proofs::Tests::tests))]
 fn legal_actor(stores: u8, home: u8, list: u8) -> bool
     requires { stores ≤ 8 }
     ensures { result ≡ legal_actor stores home list }
@@ -50,6 +51,7 @@ fn legal_row(stores: u8, actors: u8, a: usize, home: u8, list: u8) -> bool
     legal_actor(stores, home, list)
 }
 
+#[tactic(auto, unfolding(protocol::specs::Setup::legal_actors), using(unbroken::proofs::Pass::pass_end, unbroken::proofs::Pass::pass_start, unbroken::proofs::Pass::pass_step, unbroken::proofs::Pass::pass_stop))]
 fn legal_actors(stores: u8, actors: u8, homes: [u8; 8], lists: [u8; 8]) -> bool
     requires { stores ≤ 8 }
     ensures { result ≡ legal_actors stores actors homes lists }
@@ -65,6 +67,7 @@ fn legal_actors(stores: u8, actors: u8, homes: [u8; 8], lists: [u8; 8]) -> bool
     true
 }
 
+#[tactic(auto, unfolding(protocol::specs::Setup::legal), using(unbroken::proofs::Tests::tests))]
 pub fn legal(stores: u8, actors: u8, homes: [u8; 8], lists: [u8; 8]) -> bool
     ensures { result ≡ legal stores actors homes lists }
 {
@@ -93,6 +96,7 @@ fn row(actors: u8, a: usize, x: u8) -> u8
     0
 }
 
+#[tactic(auto, using(unbroken::proofs::Fill::fill_end, unbroken::proofs::Fill::fill_start, unbroken::proofs::Fill::fill_step))]
 fn rows(actors: u8, l: [u8; 8]) -> [u8; 8]
     ensures { result ≡ table (of_actors actors l) 8 }
 {
@@ -120,6 +124,7 @@ fn fresh_store(up: bool) -> Store
     }
 }
 
+#[tactic(auto, using(unbroken::proofs::Fill::fill_end, unbroken::proofs::Fill::fill_start, unbroken::proofs::Fill::fill_step))]
 fn fresh_stores(stores: u8) -> [Store; 8]
     ensures { result ≡ table (λ p. fresh_store (ltb p stores)) 8 }
 {
@@ -184,6 +189,7 @@ fn no_contents() -> Contents
     }
 }
 
+#[tactic(auto, unfolding(protocol::specs::Setup::fresh_with))]
 pub fn fresh(stores: u8, actors: u8, homes: [u8; 8], lists: [u8; 8]) -> State
     ensures { result ≡ fresh_with stores actors homes lists }
 {
@@ -216,6 +222,7 @@ pub fn fresh(stores: u8, actors: u8, homes: [u8; 8], lists: [u8; 8]) -> State
 }
 
 // No stores, actors or interactions.
+#[tactic(auto, unfolding(protocol::specs::Setup::empty_machine))]
 pub fn empty() -> State
     ensures { result ≡ empty_machine }
 {

@@ -38,6 +38,7 @@ fn contents_fine(has: bool, w: View, c: Contents) -> bool
 }
 
 // That a store which is not there has none is asked of the stores.
+#[tactic(auto, using(unbroken::proofs::Pass::pass_end, unbroken::proofs::Pass::pass_start, unbroken::proofs::Pass::pass_step, unbroken::proofs::Pass::pass_stop))]
 pub(crate) fn all_contents_fine(
     views: [View; 32],
     sets: [u32; 8],
@@ -60,6 +61,7 @@ pub(crate) fn all_contents_fine(
 }
 
 // This loop and the next leave at no test, so that they run on all sixteen at once.
+#[tactic(auto, unfolding(protocol::specs::Broken::same_links), using(unbroken::proofs::Pass::tally_all, unbroken::proofs::Pass::tally_start, unbroken::proofs::Pass::tally_step))]
 fn same_links(a: [u8; 16], b: [u8; 16]) -> bool
     ensures { result ≡ same_links a b }
 {
@@ -72,6 +74,7 @@ fn same_links(a: [u8; 16], b: [u8; 16]) -> bool
     same
 }
 
+#[tactic(auto, using(unbroken::proofs::Pass::tally_all, unbroken::proofs::Pass::tally_start, unbroken::proofs::Pass::tally_step))]
 pub(crate) fn blank_links(links: [u8; 16]) -> bool
     ensures { result ≡ all (λ j link. eqb link 0) links }
 {
@@ -94,6 +97,7 @@ fn due_links(has: bool, w: View) -> [u8; 16]
     [0; 16]
 }
 
+#[tactic(auto, using(crate::proofs::Members::due_same))]
 fn sender_links_fine(has: bool, l: Links, w: View) -> bool
     ensures { result ≡ links_due has w.links l }
 {
@@ -102,6 +106,7 @@ fn sender_links_fine(has: bool, l: Links, w: View) -> bool
     same_links(to, due)
 }
 
+#[tactic(auto, using(unbroken::proofs::Pass::pass_end, unbroken::proofs::Pass::pass_start, unbroken::proofs::Pass::pass_step, unbroken::proofs::Pass::pass_stop))]
 pub(crate) fn held_links_fine(sets: [u32; 8], views: [View; 32], links: [Links; 128]) -> bool
     ensures { result ≡ all (links_in sets views) links }
 {
@@ -129,6 +134,7 @@ fn linkable(stores: u8, made: u8, v: usize) -> u8
     0
 }
 
+#[tactic(auto, using(unbroken::proofs::Fill::fill_end, unbroken::proofs::Fill::fill_start, unbroken::proofs::Fill::fill_step))]
 fn all_linkable(stores: u8, made: u8) -> [u8; 32]
     ensures { result ≡ table (link_room stores made) 32 }
 {
@@ -142,6 +148,7 @@ fn all_linkable(stores: u8, made: u8) -> [u8; 32]
 }
 
 // Both rows of a store, working and checkpointed. This loop, too, leaves at no test.
+#[tactic(auto, using(unbroken::proofs::Pass::tally_end, unbroken::proofs::Pass::tally_start, unbroken::proofs::Pass::tally_step))]
 fn links_within(rooms: [u8; 32], links: [u8; 32], kept: [u8; 32]) -> bool
     ensures { result ≡ all_below 32 (λ v. leb (get_or links v 0) (get_or rooms v 0) && leb (get_or kept v 0) (get_or rooms v 0)) }
 {
@@ -155,6 +162,7 @@ fn links_within(rooms: [u8; 32], links: [u8; 32], kept: [u8; 32]) -> bool
 }
 
 // A store behind the last has no link.
+#[tactic(auto, using(crate::proofs::Same::below_same))]
 fn rows_within(stores: u8, rooms: [u8; 32], p: usize, links: [u8; 32], kept: [u8; 32]) -> bool
     ensures { result ≡ rows_within stores rooms p links kept }
 {
@@ -195,6 +203,7 @@ fn store_fine(stores: u8, rooms: [u8; 32], acked: u32, uacked: u32, p: usize, s:
     both(noted, rows_within(stores, rooms, p, links, kept))
 }
 
+#[tactic(auto, using(crate::proofs::Rooms::stores_same, unbroken::proofs::Pass::pass_end, unbroken::proofs::Pass::pass_start, unbroken::proofs::Pass::pass_step, unbroken::proofs::Pass::pass_stop))]
 pub(crate) fn stores_fine(
     stores: u8,
     made: u8,

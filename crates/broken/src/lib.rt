@@ -1,5 +1,7 @@
 // The code of the test for a broken state and of the setup, by the parts of the state.
 
+#![tactic(auto)]
+
 mod broken;
 mod flight;
 pub mod fresh;

@@ -7,6 +7,7 @@ ghost use Rattle.broken.specs.Rooms.{within_room};
 use super::broken::both;
 
 // The loop leaves at no test, so that it runs on many places at once.
+#[tactic(auto, using(unbroken::proofs::Pass::tally_end, unbroken::proofs::Pass::tally_start, unbroken::proofs::Pass::tally_step))]
 fn row_within(rooms: &[u8; 32], places: &[u8; 256], from: usize) -> bool
     requires { from ≤ 224 }
     ensures { result ≡ all_below 32 (λ v. leb (get_or places.now (from + v) 0) (get_or rooms.now v 0)) }
@@ -21,6 +22,7 @@ fn row_within(rooms: &[u8; 32], places: &[u8; 256], from: usize) -> bool
 }
 
 // A store that is not there has no room.
+#[tactic(auto, using(crate::proofs::Rooms::row_same, crate::proofs::Same::below_same))]
 fn store_within(stores: u8, rooms: &[u8; 32], places: &[u8; 256], p: usize) -> bool
     requires { p < 8 }
     ensures { result ≡ all_below 32 (λ v. within_room stores rooms.now (p * 32 + v) (get_or places.now (p * 32 + v) 0)) }
@@ -32,6 +34,7 @@ fn store_within(stores: u8, rooms: &[u8; 32], places: &[u8; 256], p: usize) -> b
     row_within(&none, places, p * 32)
 }
 
+#[tactic(auto, using(crate::proofs::Rooms::row_step, unbroken::proofs::Pass::tally_all, unbroken::proofs::Pass::tally_start))]
 pub(crate) fn within(stores: u8, rooms: [u8; 32], places: [u8; 256]) -> bool
     ensures { result ≡ all (within_room stores rooms) places }
 {

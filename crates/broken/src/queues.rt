@@ -9,7 +9,7 @@ use super::broken::both;
 use protocol::{Queue, View};
 
 // What a pass over the queues finds: whether all is fine, and the views met, a bit each.
-#[derive(Drop)]
+#[derive(Clone, Copy)]
 pub(crate) struct Met {
     pub(crate) fine: bool,
     pub(crate) marks: u32,
@@ -80,6 +80,7 @@ fn place_met(marks: u32, a: usize, i: usize, v: u8, w: View) -> bool
     waiting_fine(a, i, w)
 }
 
+#[tactic(auto, using(crate::proofs::Meet::meet_end, crate::proofs::Meet::meet_marks, crate::proofs::Meet::meet_start, crate::proofs::Meet::meet_step, crate::proofs::Meet::meet_stop, crate::proofs::Slots::place_below, crate::proofs::Slots::place_slot))]
 fn standing_met(views: [View; 32], a: usize, len: u8, standing: [u8; 16], before: u32) -> Met
     requires { len ≤ 16 }
     ensures fine { result.fine ≡ all_met (place_met views a) joined before 0 (take len standing) }
@@ -108,6 +109,7 @@ fn standing_met(views: [View; 32], a: usize, len: u8, standing: [u8; 16], before
 }
 
 // Behind its end a queue is blank. The loop leaves at no test, so that it runs on all sixteen at once.
+#[tactic(auto, using(unbroken::proofs::Pass::tally_all, unbroken::proofs::Pass::tally_start, unbroken::proofs::Pass::tally_step))]
 fn blank_behind(len: u8, standing: [u8; 16]) -> bool
     ensures { result ≡ all (λ i v. ltb i len || eqb v 0) standing }
 {
@@ -120,6 +122,7 @@ fn blank_behind(len: u8, standing: [u8; 16]) -> bool
     blank
 }
 
+#[tactic(auto, unfolding(crate::specs::Marks::queue_marks), using(crate::proofs::Marked::queue_goes, crate::proofs::Marked::queue_stop, unbroken::proofs::Laws::Tests::and_left))]
 fn queue_met(actors: u8, views: [View; 32], a: usize, q: Queue, marks: u32) -> Met
     ensures fine { result.fine ≡ queue_met actors views marks a q }
     ensures marks { result.fine ≡ true → result.marks ≡ queue_marks marks q }
@@ -135,6 +138,7 @@ fn queue_met(actors: u8, views: [View; 32], a: usize, q: Queue, marks: u32) -> M
     standing_met(views, a, q.len, standing, marks)
 }
 
+#[tactic(auto, using(crate::proofs::Meet::meet_end, crate::proofs::Meet::meet_marks, crate::proofs::Meet::meet_start, crate::proofs::Meet::meet_step, crate::proofs::Meet::meet_stop))]
 pub(crate) fn queues_met(actors: u8, views: [View; 32], queues: [Queue; 8]) -> Met
     ensures fine { result.fine ≡ queues_met actors views queues }
     ensures marks { result.fine ≡ true → result.marks ≡ marks_of queues }

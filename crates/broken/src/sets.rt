@@ -17,6 +17,7 @@ pub(crate) fn is_in(set: u32, v: usize) -> bool
 }
 
 // Every view of which a note is owed may have one: joined with those, they are no more.
+#[tactic(auto, using(crate::proofs::Members::inside_notes))]
 pub(crate) fn notes_fine(may: u32, owed: u32) -> bool
     ensures { result ≡ notes_fine (bit may) owed }
 {
@@ -34,6 +35,7 @@ fn joined_if(set: u32, v: usize, joins: bool) -> u32
 }
 
 // The views that may have an ack: those that are in phase 2 or later.
+#[tactic(auto, using(crate::proofs::Members::join_end, crate::proofs::Members::join_start, crate::proofs::Members::join_step))]
 pub(crate) fn ready(views: [View; 32]) -> u32
     ensures { result ≡ set_of (is_ready views) 32 }
 {
@@ -48,6 +50,7 @@ pub(crate) fn ready(views: [View; 32]) -> u32
 }
 
 // .. and a uack: those that have an entry.
+#[tactic(auto, using(crate::proofs::Members::join_end, crate::proofs::Members::join_start, crate::proofs::Members::join_step))]
 pub(crate) fn entered(entries: [Entry; 32]) -> u32
     ensures { result ≡ set_of (is_entered entries) 32 }
 {
@@ -62,6 +65,7 @@ pub(crate) fn entered(entries: [Entry; 32]) -> u32
 }
 
 // By store, the views of which it has contents, in its working state, its checkpointed one or both.
+#[tactic(auto, using(unbroken::proofs::Fill::fill_end, unbroken::proofs::Fill::fill_start, unbroken::proofs::Fill::fill_step))]
 pub(crate) fn had(shelves: [Store; 8]) -> [u32; 8]
     ensures { result ≡ table (had_at shelves) 8 }
 {

@@ -20,6 +20,7 @@ fn link_fine(stores: u8, causes: u16, j: usize, link: u8) -> bool
     link < stores
 }
 
+#[tactic(auto, unfolding(protocol::specs::Broken::links_fine, protocol::specs::Words::all_from), using(crate::proofs::Causes::links_high, crate::proofs::Causes::links_low, unbroken::proofs::Pass::tally_all, unbroken::proofs::Pass::tally_start, unbroken::proofs::Pass::tally_step))]
 fn links_fine(stores: u8, key: usize, causes: u16, links: [u8; 16]) -> bool
     requires { key < 16 }
     ensures { result ≡ links_fine stores key causes links }
@@ -128,6 +129,7 @@ fn number_before(v: usize) -> usize
     v - 1
 }
 
+#[tactic(auto, unfolding(crate::specs::Marks::view_met), using(unbroken::proofs::Pass::pass_end, unbroken::proofs::Pass::pass_start, unbroken::proofs::Pass::pass_step, unbroken::proofs::Pass::pass_stop))]
 pub(crate) fn views_met(stores: u8, actors: u8, made: u8, views: [View; 32], marks: u32) -> bool
     ensures { result ≡ all (view_met stores actors made views marks) views }
 {

@@ -1,4 +1,7 @@
 // The drain: takes steps one after another until none applies.
+
+#![tactic(auto)]
+
 ghost use Rattle.std.specs.Prelude.{◌≡◌};
 ghost use Rattle.protocol.specs.Drain.{drain_of};
 
@@ -8,6 +11,7 @@ use protocol::{Drained, State};
 mod turns;
 
 // Takes steps until none applies. 1 for a broken value, then 5 if any store is down.
+#[tactic(auto, unfolding(protocol::specs::Drain::drain_of))]
 pub fn drain(m: State) -> Drained
     ensures { result ≡ drain_of m }
 {

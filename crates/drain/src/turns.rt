@@ -11,6 +11,7 @@ use machine::{Answered, Machine};
 use protocol::{Drained, Entry, Queue, Repair, State, Status, Step, Store, Turn, View};
 
 // (a) The lowest unreceived key, or `made`.
+#[tactic(auto, using(crate::proofs::Lowest::sought_end, crate::proofs::Lowest::sought_more, crate::proofs::Lowest::sought_start, crate::proofs::Lowest::sought_stop, unbroken::proofs::Tests::tests))]
 fn unreceived(made: u8, views: [View; 32]) -> u8
     requires { made ≤ 16 }
     ensures { result ≡ lowest made (unreceived_in views) }
@@ -27,6 +28,7 @@ fn unreceived(made: u8, views: [View; 32]) -> u8
 }
 
 // (b) The lowest actor with a queue, or `actors`.
+#[tactic(auto, using(crate::proofs::Lowest::sought_end, crate::proofs::Lowest::sought_more, crate::proofs::Lowest::sought_start, crate::proofs::Lowest::sought_stop, unbroken::proofs::Tests::tests))]
 fn busy(actors: u8, queues: [Queue; 8]) -> u8
     requires { actors ≤ 8 }
     ensures { result ≡ lowest actors (busy_in queues) }
@@ -54,6 +56,7 @@ fn other(list: u8, current: u8, p: u8) -> bool
 }
 
 // The lowest other store in the list, or `stores`.
+#[tactic(auto, using(crate::proofs::Lowest::sought_end, crate::proofs::Lowest::sought_more, crate::proofs::Lowest::sought_start, crate::proofs::Lowest::sought_stop))]
 fn spare(stores: u8, list: u8, current: u8) -> u8
     requires { stores ≤ 8 }
     ensures { result ≡ lowest stores (other_in list current) }
@@ -145,6 +148,7 @@ fn awaiting_step(
 }
 
 // The head of the queue: phase 1 pre-check, phase 2 send, phase 4 post-check.
+#[tactic(auto, unfolding(protocol::specs::Drain::job_step))]
 fn job_step(m: State, actor: u8) -> Step
     requires bounds { Bounds m }
     requires actor_lt_actors { actor < m.actors }
@@ -182,6 +186,7 @@ fn job_step(m: State, actor: u8) -> Step
 }
 
 // (c) The lowest view with a repair, or `end`.
+#[tactic(auto, using(crate::proofs::Lowest::sought_end, crate::proofs::Lowest::sought_more, crate::proofs::Lowest::sought_start, crate::proofs::Lowest::sought_stop))]
 fn repair_due(end: u8, repairs: [Repair; 32]) -> u8
     requires { end ≤ 32 }
     ensures { result ≡ lowest end (repair_in repairs) }
@@ -211,6 +216,7 @@ fn is_unfinished(e: Entry) -> bool
 }
 
 // (d) The lowest view with an unfinished entry, or `end`.
+#[tactic(auto, using(crate::proofs::Lowest::sought_end, crate::proofs::Lowest::sought_more, crate::proofs::Lowest::sought_start, crate::proofs::Lowest::sought_stop))]
 fn entry_due(end: u8, entries: [Entry; 32]) -> u8
     requires { end ≤ 32 }
     ensures { result ≡ lowest end (unfinished_in entries) }
@@ -272,6 +278,7 @@ fn entry_of(entries: [Entry; 32], v: u8) -> Entry
 }
 
 // (c) a repair, then (d) an entry.
+#[tactic(auto, unfolding(protocol::specs::Drain::entry_step))]
 fn coordinator_turn(m: State) -> Turn
     requires { Bounds m }
     ensures { result ≡ coordinator_turn m }
@@ -306,6 +313,7 @@ fn coordinator_turn(m: State) -> Turn
 }
 
 // The first step that applies.
+#[tactic(auto, unfolding(protocol::specs::Drain::entry_step, protocol::specs::Drain::turn_of))]
 fn turn(m: State) -> Turn
     requires { Bounds m }
     ensures { result ≡ turn_of m }
@@ -333,6 +341,7 @@ fn is_up(stores: u8, p: usize, s: Store) -> bool
     s.up
 }
 
+#[tactic(auto, using(unbroken::proofs::Pass::pass_end, unbroken::proofs::Pass::pass_start, unbroken::proofs::Pass::pass_step, unbroken::proofs::Pass::pass_stop))]
 pub(crate) fn all_up(stores: u8, shelves: [Store; 8]) -> bool
     ensures { result ≡ all (up_in stores) shelves }
 {
@@ -350,6 +359,7 @@ pub(crate) fn all_up(stores: u8, shelves: [Store; 8]) -> bool
 
 // Turns, one after another, at most 22 for each interaction. The machine stays where it is: the call reads it there and
 // writes it there.
+#[tactic(auto, using(crate::proofs::Draining::going_end, crate::proofs::Draining::going_on, crate::proofs::Draining::going_rest, crate::proofs::Draining::going_start, crate::proofs::Draining::once, unbroken::proofs::Laws::bounds))]
 pub(crate) fn turns(from: State) -> Drained
     requires { broken_of from ≡ false }
     ensures { result ≡ drained (course (from.made * 22) from) }

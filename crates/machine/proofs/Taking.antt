@@ -2,7 +2,7 @@
 -- written, gives what all gives from the start. Assumes nothing.
 use Prim.Native.Nat.{ℕ, suc, ◌+◌, ◌-◌, ◌≤◌, ◌<◌}
 use mathlib.Core.Path.{◌≡◌, refl, sym, ap, ◌∙◌}
-use mathlib.Core.Bool.{Bool, false}
+use mathlib.Core.Bool.{false}
 use mathlib.Core.List.{List, [], ◌∷◌}
 use native.Mathlib.Numerals.{add-one}
 use native.Mathlib.Omega.{arith}
@@ -18,7 +18,6 @@ use Rattle.protocol.specs.declared.Step.{Step}
 use Rattle.keeps.proofs.Ruled.{ruled}
 use Rattle.keeps.proofs.Keeps.{step_keeps}
 use Rattle.machine.specs.Given.{given, last_of}
-use Rattle.machine.specs.declared.Answered.{Answered}
 
 pub record Taking (steps : List Step) (n from : ℕ) (m₀ m : State) (a₀ a : List ℕ) (i : ℕ) : Type 0 where
   pub low : i ≤ n

@@ -1,4 +1,7 @@
 // A machine by value: its setup, the test for a broken one, and its steps. Each method hands back the machine and its answer.
+
+#![tactic(auto)]
+
 ghost use Rattle.std.specs.Prelude.{◌≡◌};
 ghost use Rattle.protocol.specs.Broken.{broken_of};
 ghost use Rattle.protocol.specs.Setup.{answered, empty_machine, setup_of};
@@ -14,13 +17,13 @@ mod places;
 mod single;
 mod steps;
 
-#[derive(Drop)]
+#[derive(Clone, Copy)]
 pub struct Machine {
     pub state: State,
 }
 
 // A machine and document 01's number: 0 taken, or the refusal.
-#[derive(Drop)]
+#[derive(Clone, Copy)]
 pub struct Answered {
     pub machine: Machine,
     pub answer: u8,
@@ -36,6 +39,7 @@ impl Machine {
     }
 
     // 11 with the empty machine for an illegal setup, or 0 with the fresh machine.
+    #[tactic(auto, unfolding(protocol::specs::Setup::setup_of))]
     pub fn setup(u: Setup) -> Answered
         ensures { result ≡ given (setup_of u) }
     {
@@ -73,6 +77,7 @@ impl Machine {
     }
 
     // One step: 1 for a broken value, else what its rule says.
+    #[tactic(auto, unfolding(protocol::specs::Step::step_of))]
     pub fn step(self, s: Step) -> Answered
         ensures { result ≡ given (step_of self.state s) }
     {

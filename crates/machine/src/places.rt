@@ -31,6 +31,7 @@ fn sent_if(owed: bool, n: u8) -> u8
 }
 
 // One copy for each owed note of the store.
+#[tactic(auto, using(crate::proofs::Placing::place_end, crate::proofs::Placing::place_start, crate::proofs::Placing::place_step, crate::proofs::Spread::sent_none))]
 pub(crate) fn send_owed(copies: &mut [u8; 256], p: usize, owed: u32)
     requires { (p < 8) × (length copies.old ≡ 256) }
     ensures { copies.new ≡ sent_owed owed p copies.old }
@@ -92,6 +93,7 @@ fn kept_contents(has: bool, there: Contents) -> Contents
 }
 
 // Contents that the store doesn't have are nothing.
+#[tactic(auto, using(crate::proofs::Placing::place_end, crate::proofs::Placing::place_start, crate::proofs::Placing::place_step))]
 pub(crate) fn swept_contents(contents: [Contents; 256], p: usize, has: u32) -> [Contents; 256]
     requires { p < 8 }
     ensures { result ≡ on_places 32 p (λ v c. pick (bit has v) c no_contents) no_contents contents }
@@ -118,6 +120,7 @@ fn kept_links(has: bool, there: Links) -> Links
 }
 
 // So are the cause links of senders whose contents it doesn't have.
+#[tactic(auto, using(crate::proofs::Placing::place_end, crate::proofs::Placing::place_start, crate::proofs::Placing::place_step))]
 pub(crate) fn swept_links(links: [Links; 128], p: usize, has: u32) -> [Links; 128]
     requires { p < 8 }
     ensures { result ≡ on_places 16 p (λ k l. pick (bit has (k * 2)) l blank_links) no_links links }

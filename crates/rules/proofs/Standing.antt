@@ -1,22 +1,20 @@
 -- What stands in the slots that a step is about tells what its rule gives: a refused rule writes back what stood there,
 -- and so changes nothing. Assumes nothing.
-use Prim.Native.Nat.{ℕ, ◌+◌, ◌*◌, ◌-◌, ◌/◌, ◌%◌, ◌<◌}
+use Prim.Native.Nat.{ℕ, ◌-◌, ◌/◌, ◌%◌, ◌<◌}
 use mathlib.Core.Path.{◌≡◌, ◌∙◌, refl, sym, ap}
-use mathlib.Core.Bool.{Bool, true, false, ◌||◌, true≢false}
+use mathlib.Core.Bool.{Bool, true, false}
 use lib.Dec.{eqb}
 use mathlib.Core.List.{List}
 use native.Mathlib.Omega.{arith}
-use borrow.Author.Tests.{leb-false}
 use lib.ListN.{get_or, set}
 use lib.Seq.{set-get_or, get_or-set_other}
 use Rattle.protocol.specs.Words.{pick}
 use Rattle.protocol.specs.Slots.{number}
 use Rattle.protocol.specs.Setup.{answered}
 use Rattle.protocol.specs.declared.State.{State}
-use Rattle.protocol.specs.Outcome.{Outcome}
 use Rattle.rules.specs.About.{about_of, actor_about, view_about, store_about}
-use Rattle.protocol.specs.Rule.{decided, outside}
-use Rattle.rules.specs.Slots.{Stands, opposite, slots_of, with_slots_at, with_sent, with_swept, with_slots}
+use Rattle.protocol.specs.Rule.{decided}
+use Rattle.rules.specs.Slots.{Stands, opposite, with_slots_at, with_sent, with_swept, with_slots}
 use Rattle.protocol.specs.Step.{rule_of, number_of, after_of}
 use Rattle.protocol.specs.declared.Step.{Step}
 use Rattle.rules.specs.declared.slots.Slots.{Slots}

@@ -1,7 +1,7 @@
 // What a step is about: one actor, one view and one store. It names some of them; the machine tells the others.
 
 // As far as the step tells. What it doesn't name is 0.
-#[derive(Drop)]
+#[derive(Clone, Copy)]
 pub struct About {
     // Send and pre-check look back at the receipts of their actor.
     pub back: bool,

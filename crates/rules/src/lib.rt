@@ -1,5 +1,7 @@
 // The rules of the eighteen kinds of step, each on the slots of the one actor, view and store that its step is about.
 
+#![tactic(auto)]
+
 pub mod about;
 mod checkpoint;
 mod crash;

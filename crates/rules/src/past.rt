@@ -8,7 +8,7 @@ use crate::pre_check::checked_links;
 use crate::send::causes_known;
 use protocol::View;
 
-#[derive(Drop)]
+#[derive(Clone, Copy)]
 pub struct Past {
     // The actor has received every cause that the step names.
     pub known: bool,

@@ -51,6 +51,7 @@ fn asked_repair(there: Repair, w: View) -> Repair
 }
 
 // The head leaves the queue.
+#[tactic(auto, unfolding(protocol::specs::Words::table), using(crate::proofs::Shift::shifted))]
 fn left(q: Queue) -> Queue
     requires { 0 < q.len }
     ensures { result ≡ left q }

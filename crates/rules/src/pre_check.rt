@@ -53,6 +53,7 @@ fn checked_link(receipt: View, causes: u16, link: u8, j: usize) -> u8
 }
 
 // The contract's machine has these views; nothing else of it is looked at.
+#[tactic(auto, using(unbroken::proofs::Fill::fill_end, unbroken::proofs::Fill::fill_start, unbroken::proofs::Fill::fill_step))]
 pub(crate) fn checked_links(views: [View; 32], w: View) -> [u8; 16]
     ensures { result ≡ table (checked_link (with_views empty_machine views) w) 16 }
 {

@@ -87,6 +87,7 @@ fn cause_known(w: View, made: u8, actor: u8, causes: u16, j: usize) -> bool
 }
 
 // The contract's machine has these views and this number made; nothing else of it is looked at.
+#[tactic(auto, unfolding(protocol::specs::Send::causes_known), using(unbroken::proofs::Pass::below_end, unbroken::proofs::Pass::below_start, unbroken::proofs::Pass::below_step, unbroken::proofs::Pass::below_stop))]
 pub(crate) fn causes_known(views: [View; 32], made: u8, actor: u8, causes: u16) -> bool
     ensures { result ≡ causes_known (with_made (with_views empty_machine views) made) actor causes }
 {
@@ -112,6 +113,7 @@ fn home_link(causes: u16, home: u8, j: usize) -> u8
     0
 }
 
+#[tactic(auto, using(unbroken::proofs::Fill::fill_end, unbroken::proofs::Fill::fill_start, unbroken::proofs::Fill::fill_step))]
 fn home_links(causes: u16, home: u8) -> [u8; 16]
     ensures { result ≡ table (home_link causes home) 16 }
 {

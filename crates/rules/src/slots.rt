@@ -9,7 +9,7 @@ ghost use Rattle.protocol.specs.Step.{rule_of};
 use crate::past::Past;
 use protocol::{Contents, Entry, Links, Message, Queue, Repair, Step, Store, View};
 
-#[derive(Drop)]
+#[derive(Clone, Copy)]
 pub struct Slots {
     // Which view and which store; home and list of the actor; home of the other actor; what the step looks back at.
     // No rule writes these.
@@ -45,7 +45,7 @@ pub struct Slots {
 }
 
 // The slots after a step, and its number.
-#[derive(Drop)]
+#[derive(Clone, Copy)]
 pub struct Tried {
     pub answer: u8,
     pub slots: Slots,

@@ -9,7 +9,7 @@ use super::reader;
 use protocol::{Read, Step};
 
 // How many steps stand at a place, and the place behind them.
-#[derive(Drop)]
+#[derive(Clone, Copy)]
 pub(crate) struct Reached {
     pub count: usize,
     pub next: usize,
@@ -26,6 +26,7 @@ pub(crate) fn wanted(n: u16) -> usize
 }
 
 // n steps, or as many as stand there. Counted before they are read, as a struct can't hold an array of them.
+#[tactic(auto, using(reads::proofs::Some::reach_start, reads::proofs::Some::reach_step))]
 pub(crate) fn reach(s: &[u8], from: usize, n: usize) -> Reached
     ensures low { result.count ≤ n }
     ensures count { length (steps_from s.now result.count from) ≡ result.count }
@@ -49,6 +50,7 @@ pub(crate) fn reach(s: &[u8], from: usize, n: usize) -> Reached
 }
 
 // The first n steps at a place. What stands in the array behind them is never taken.
+#[tactic(auto, using(reads::proofs::Some::load_all, reads::proofs::Some::load_bad, reads::proofs::Some::load_start, reads::proofs::Some::load_step))]
 pub(crate) fn load(s: &[u8], from: usize, n: usize) -> [Step; 16]
     requires { n ≤ 16 }
     ensures { take (length (steps_from s.now n from)) result ≡ steps_from s.now n from }
@@ -80,6 +82,7 @@ fn one_taken(answer: u8) -> u16
 }
 
 // How many of the n answers from a place on are those of steps taken.
+#[tactic(auto, using(reads::proofs::Some::count_end, reads::proofs::Some::count_start, reads::proofs::Some::count_step, reads::proofs::Some::one_low))]
 pub(crate) fn taken(answers: &[u8], from: usize, n: usize) -> u16
     requires { (n ≤ 16) × (from + n ≤ length answers.now) }
     ensures same { result ≡ times 0 (take n (drop from answers.now)) }

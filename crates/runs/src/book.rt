@@ -9,6 +9,7 @@ use protocol::{Read, Step};
 const WIDTHS: [usize; 19] = [0, 9, 1, 1, 1, 2, 3, 3, 1, 2, 2, 3, 3, 2, 4, 1, 1, 1, 4];
 
 // 0 for an unknown kind.
+#[tactic(auto, unfolding(protocol::specs::Book::width_of))]
 fn width_of(kind: u8) -> usize
     ensures { result ≡ width_of kind }
 {
@@ -46,6 +47,7 @@ fn low32(s: &[u8], i: usize) -> u32
 }
 
 // Kinds 9 to 18.
+#[tactic(auto, unfolding(protocol::specs::Book::repair_made))]
 fn repair_made(kind: u8, a: u8, b: u8, c: u8, d: u8) -> Step
     ensures { result ≡ repair_made kind a b c d }
 {
@@ -82,6 +84,7 @@ fn repair_made(kind: u8, a: u8, b: u8, c: u8, d: u8) -> Step
 }
 
 // Kinds 2 to 18, whose fields are bytes.
+#[tactic(auto, unfolding(protocol::specs::Book::short_made))]
 fn short_made(kind: u8, a: u8, b: u8, c: u8, d: u8) -> Step
     ensures { result ≡ short_made kind a b c d }
 {
@@ -106,6 +109,7 @@ fn short_made(kind: u8, a: u8, b: u8, c: u8, d: u8) -> Step
 }
 
 // The step of a kind whose fields start at i.
+#[tactic(auto, unfolding(protocol::specs::Book::step_made))]
 fn step_made(s: &[u8], kind: u8, i: usize) -> Step
     requires { i + 8 < 2 ^ 64 }
     ensures { result ≡ step_made s.now kind i }
@@ -139,6 +143,7 @@ fn read_kind(s: &[u8], at: usize, kind: u8, width: usize) -> Read
     Read::Got(step_made(s, kind, at + 1), at + 1 + width)
 }
 
+#[tactic(auto, unfolding(protocol::specs::Book::read_step), using(reads::proofs::Reading::width_low, unbroken::proofs::Tests::tests))]
 pub(crate) fn read_step(s: &[u8], at: usize) -> Read
     ensures { result ≡ read_step s.now at }
 {

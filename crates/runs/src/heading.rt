@@ -9,6 +9,7 @@ use super::reader;
 use protocol::{Read, Setup};
 
 // Whether n steps stand from here to the end.
+#[tactic(auto, using(reads::proofs::Reading::check_bad, reads::proofs::Reading::check_end, reads::proofs::Reading::check_got))]
 fn valid_from(s: &[u8], n: u16, from: usize) -> bool
     ensures { result ≡ valid_from s.now n from }
 {
@@ -28,12 +29,14 @@ fn valid_from(s: &[u8], n: u16, from: usize) -> bool
     at == s.len()
 }
 
+#[tactic(auto, unfolding(protocol::specs::Book::start_of))]
 pub(crate) fn start_of(s: &[u8]) -> usize
     ensures { result ≡ start_of s.now }
 {
     4 + 2 * (reader::byte_at(s, 1) as usize)
 }
 
+#[tactic(auto, unfolding(protocol::specs::Book::count_of))]
 pub(crate) fn count_of(s: &[u8]) -> u16
     ensures { result ≡ count_of s.now }
 {
@@ -41,6 +44,7 @@ pub(crate) fn count_of(s: &[u8]) -> u16
     joined(reader::byte_at(s, at), reader::byte_at(s, at + 1))
 }
 
+#[tactic(auto, unfolding(protocol::specs::Book::well_formed))]
 pub(crate) fn well_formed(s: &[u8]) -> bool
     ensures { result ≡ well_formed s.now }
 {
@@ -66,6 +70,7 @@ fn cell(s: &[u8], first: usize, a: usize) -> u8
     0
 }
 
+#[tactic(auto, using(unbroken::proofs::Fill::fill_end, unbroken::proofs::Fill::fill_start, unbroken::proofs::Fill::fill_step))]
 fn column(s: &[u8], first: usize) -> [u8; 8]
     requires { first < 4 }
     ensures { result ≡ table (λ a. pick (ltb a (actors_read s.now)) (byte s.now (first + 2 * a)) 0) 8 }
@@ -79,6 +84,7 @@ fn column(s: &[u8], first: usize) -> [u8; 8]
     kept
 }
 
+#[tactic(auto, unfolding(protocol::specs::Book::setup_read))]
 pub(crate) fn setup_read(s: &[u8]) -> Setup
     ensures { result ≡ setup_read s.now }
 {

@@ -1,4 +1,7 @@
 // The run of a book.
+
+#![tactic(auto)]
+
 ghost use Rattle.std.specs.Prelude.{◌≡◌, not, length};
 ghost use Rattle.protocol.specs.Words.{pick};
 ghost use Rattle.protocol.specs.Run.{refused_run, run_of, buffer_of};
@@ -42,6 +45,7 @@ fn book_no(formed: bool, legal: bool, room: bool) -> u8
 }
 
 // Runs a book, and writes each step's number into the answers; a refusal writes nothing.
+#[tactic(auto, using(crate::proofs::Ends::ends_refused, crate::proofs::Ends::ends_run, crate::proofs::Ends::starts))]
 pub fn run(book: &[u8], answers: &mut [u8]) -> Ran
     ensures { (result ≡ run_of book.now (length answers.old)) × (answers.new ≡ buffer_of book.now answers.old) }
 {

@@ -7,7 +7,7 @@ ghost use Rattle.protocol.specs.Book.{byte, read_step};
 use super::book;
 use protocol::Read;
 
-#[derive(Drop)]
+#[derive(Clone, Copy)]
 pub(crate) struct Reader<'a> {
     pub book: &'a [u8],
     pub at: usize,

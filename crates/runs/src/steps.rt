@@ -10,6 +10,7 @@ use machine::{Answered, Machine};
 use protocol::{Ran, State};
 
 // A refused step doesn't stop the run.
+#[tactic(auto, using(crate::proofs::Running::run_batch, crate::proofs::Running::run_end, crate::proofs::Running::run_none, crate::proofs::Running::run_start))]
 pub(crate) fn run_steps(s: &[u8], n: u16, from: usize, m: State, answers: &mut [u8]) -> Ran
     requires { (n ≤ length answers.old) × (broken_of m ≡ false) }
     ensures { (result ≡ full_run m (steps_from s.now n from)) × (answers.new ≡ filled m (steps_from s.now n from) answers.old) }

@@ -1,0 +1,11 @@
+-- The loop fills in each view's room. Assumes nothing.
+use Rattle.std.proofs.Common.{◌-◌}
+use Rattle.broken.specs.Rooms.{update_room}
+use Rattle.unbroken.proofs.Fill.{Filled}
+use Rattle.broken.proofs.flight.update_rooms.Given as goal
+
+abbrev pub invariant-loop-v : goal.invariant-loop-v
+invariant-loop-v l = Filled (update_room l.entries) 32 l.rooms l.v
+
+abbrev pub decreases-loop-v : goal.decreases-loop-v
+decreases-loop-v l = 32 - l.v
