@@ -55,6 +55,7 @@ fn side(e: Exchange, m: Message) -> Side
 }
 
 // Both rows with the message.
+#[tactic(auto, unfolding(activities::specs::Receive::exchange_taken))]
 pub(crate) fn taken(e: Exchange, m: Message) -> Exchange
     requires { full_of (side_of e m) m.said ≡ false }
     ensures { result ≡ exchange_taken e m }

@@ -29,6 +29,7 @@ pub(crate) fn fresh(a: Activity) -> Exchange
     }
 }
 
+#[tactic(auto, unfolding(activities::specs::Activity::same), using(crate::proofs::Kit::tests))]
 pub(crate) fn same(a: Activity, b: Activity) -> bool
     ensures { result ≡ same_of a b }
 {

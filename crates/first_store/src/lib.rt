@@ -1,4 +1,7 @@
 // The first PReP's provenance store: one message is received by value, and back come the store and what is answered.
+
+#![tactic(auto)]
+
 ghost use Rattle.std.specs.Prelude.{◌≡◌};
 ghost use Rattle.activities.specs.Store.{empty_store};
 ghost use Rattle.activities.specs.Complete.{complete as complete_of};

@@ -74,6 +74,7 @@ fn added(l: Added, extra: u32) -> Added
     x
 }
 
+#[tactic(auto, unfolding(activities::specs::Side::side_taken))]
 fn with_negotiation(x: Side, list: u32, accepted: u32, extra: u32) -> Side
     ensures { result ≡ side_taken x (Said.Negotiation list accepted extra) }
 {
@@ -91,6 +92,7 @@ fn with_negotiation(x: Side, list: u32, accepted: u32, extra: u32) -> Side
     y
 }
 
+#[tactic(auto, unfolding(activities::specs::Side::side_taken))]
 fn with_invocation(x: Side, extra: u32, word: u32) -> Side
     ensures { result ≡ side_taken x (Said.Invocation extra word) }
 {
@@ -107,6 +109,7 @@ fn with_invocation(x: Side, extra: u32, word: u32) -> Side
     y
 }
 
+#[tactic(auto, unfolding(activities::specs::Side::side_taken))]
 fn with_result(x: Side, extra: u32, word: u32) -> Side
     ensures { result ≡ side_taken x (Said.Result extra word) }
 {
@@ -123,6 +126,7 @@ fn with_result(x: Side, extra: u32, word: u32) -> Side
     y
 }
 
+#[tactic(auto, unfolding(activities::specs::Side::side_taken))]
 fn with_finished(x: Side, count: u32) -> Side
     ensures { result ≡ side_taken x (Said.Finished count) }
 {
@@ -138,6 +142,7 @@ fn with_finished(x: Side, count: u32) -> Side
     y
 }
 
+#[tactic(auto, unfolding(activities::specs::Side::side_taken))]
 fn with_additional(x: Side, extra: u32) -> Side
     requires { x.additional.count < 8 }
     ensures { result ≡ side_taken x (Said.Additional extra) }
@@ -204,6 +209,7 @@ fn both(a: bool, b: bool) -> bool
 }
 
 // Whether a side has sent the first four, and as many additional ones as it announced.
+#[tactic(auto, unfolding(activities::specs::Complete::complete_side))]
 fn complete_side(x: Side) -> bool
     ensures { result ≡ complete_side x }
 {
@@ -212,6 +218,7 @@ fn complete_side(x: Side) -> bool
     both(both(both(asked, x.result.held), x.finished.held), told)
 }
 
+#[tactic(auto, unfolding(activities::specs::Complete::complete))]
 pub(crate) fn complete(e: Exchange) -> bool
     ensures { result ≡ complete_of e }
 {

@@ -1,4 +1,7 @@
 // What the recorder prints of a run, as text: the listing, or the refusal.
+
+#![tactic(auto)]
+
 ghost use Rattle.std.specs.Prelude.{◌≡◌, ◌+◌, ◌<◌, get_or};
 ghost use Rattle.protocol.specs.Slots.{no_store};
 ghost use Rattle.listing.specs.Text.{no_text, put_of, wrote};
@@ -7,7 +10,7 @@ ghost use Rattle.protocol.specs.Listing.{large, decimal, refused_line, counts_li
 use protocol::{State, Store};
 
 // Bytes, and how many of them are written. No listing is longer than 990.
-#[derive(Drop)]
+#[derive(Clone, Copy)]
 pub struct Text {
     pub bytes: [u8; 1024],
     pub len: usize,
@@ -24,6 +27,7 @@ fn blank() -> Text
 
 impl Text {
     // One byte more, where there is room.
+    #[tactic(auto, unfolding(crate::specs::Text::put_of), using(unbroken::proofs::Tests::tests))]
     fn put(self, b: u8) -> Text
         ensures { result ≡ put_of self b }
     {
@@ -45,6 +49,7 @@ impl Text {
     }
 
     // Four digits or five.
+    #[tactic(auto, unfolding(protocol::specs::Listing::large), using(unbroken::proofs::Tests::tests))]
     fn large(self, n: u16) -> Text
         ensures { result ≡ wrote self (large n) }
     {
@@ -62,6 +67,7 @@ impl Text {
             .digit(n % 10)
     }
 
+    #[tactic(auto, unfolding(protocol::specs::Listing::decimal), using(unbroken::proofs::Tests::tests))]
     fn number(self, n: u16) -> Text
         ensures { result ≡ wrote self (decimal n) }
     {
@@ -84,6 +90,7 @@ impl Text {
     }
 
     // Stores, actors, interactions, steps, steps taken.
+    #[tactic(auto, unfolding(protocol::specs::Listing::counts_line), using(crate::proofs::Writing::wrote_append))]
     fn counts(self, stores: u8, actors: u8, made: u8, steps: u16, taken: u16) -> Text
         ensures { result ≡ wrote self (counts_line stores actors made steps taken) }
     {
@@ -98,6 +105,7 @@ impl Text {
     }
 
     // The viewlink, or `-` if none: 0 for none, and p + 1 for store p.
+    #[tactic(auto, unfolding(protocol::specs::Listing::link_text), using(unbroken::proofs::Tests::tests))]
     fn link(self, held: u8) -> Text
         ensures { result ≡ wrote self (link_text held) }
     {
@@ -108,6 +116,7 @@ impl Text {
     }
 
     // In phase 0 both last columns are `-`.
+    #[tactic(auto, unfolding(protocol::specs::Listing::place_text), using(crate::proofs::Writing::wrote_append, unbroken::proofs::Tests::tests))]
     fn place(self, phase: u8, store: u8, held: u8) -> Text
         ensures { result ≡ wrote self (place_text phase store held) }
     {
@@ -117,6 +126,7 @@ impl Text {
         self.small(store).put(32).link(held).put(10)
     }
 
+    #[tactic(auto, unfolding(protocol::specs::Listing::line_of), using(crate::proofs::Writing::wrote_append))]
     fn line(self, key: u8, role: u8, phase: u8, store: u8, held: u8) -> Text
         ensures { result ≡ wrote self (line_of key role phase store held) }
     {
@@ -125,6 +135,7 @@ impl Text {
     }
 
     // A line for a view that is made, nothing for another.
+    #[tactic(auto, unfolding(protocol::specs::Listing::view_line), using(unbroken::proofs::Tests::tests))]
     fn view(self, m: State, v: u8) -> Text
         requires { v < 32 }
         ensures { result ≡ wrote self (view_line m v) }
@@ -138,6 +149,7 @@ impl Text {
     }
 
     // Key rising, sender first.
+    #[tactic(auto, using(crate::proofs::Writing::listed_end, crate::proofs::Writing::listed_more, crate::proofs::Writing::listed_start))]
     fn views(self, m: State) -> Text
         ensures { result ≡ wrote self (lines_to m 32) }
     {
@@ -164,6 +176,7 @@ fn kept(shelves: [Store; 8], store: u8, v: u8) -> u8
 }
 
 // `refused N`.
+#[tactic(auto, unfolding(protocol::specs::Listing::refused_line), using(crate::proofs::Writing::wrote_append))]
 pub fn refused(n: u8) -> Text
     ensures { result ≡ wrote no_text (refused_line n) }
 {
@@ -180,6 +193,7 @@ pub fn refused(n: u8) -> Text
 }
 
 // The listing of a machine after a run of so many steps, of which so many were taken.
+#[tactic(auto, unfolding(protocol::specs::Listing::listing_of), using(crate::proofs::Writing::wrote_append))]
 pub fn listing(m: State, steps: u16, taken: u16) -> Text
     ensures { result ≡ wrote no_text (listing_of m steps taken) }
 {

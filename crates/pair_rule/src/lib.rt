@@ -1,4 +1,7 @@
 // The pair rule over the walk of a forecast: what the interactions met say of weights and scalers.
+
+#![tactic(auto)]
+
 ghost use Rattle.std.specs.Prelude.{◌≡◌, ◌&&◌, ◌||◌, ◌<◌};
 ghost use Rattle.protocol.specs.Words.{bit, one, table};
 ghost use Rattle.pairing.specs.Pair.{kind_of, bundle_of, is_a, is_part, how_many, has_bundle, all_have, is_cause, is_direct, all_direct, sender_of, rule_one, two_adds, rule_two, passes_of, is_rule, refused_check, answered_check, checked_of, check_of};
@@ -37,6 +40,7 @@ pub fn is_rule(rule: u8) -> bool
 }
 
 // By the rule that the caller names.
+#[tactic(auto, unfolding(pairing::specs::Pair::passes_of))]
 fn passes(rule: u8, met: [Contents; 16], keys: [u8; 16], forecast: Contents) -> bool
     ensures { result ≡ passes_of rule met keys forecast }
 {
@@ -48,6 +52,7 @@ fn passes(rule: u8, met: [Contents; 16], keys: [u8; 16], forecast: Contents) -> 
 }
 
 // The walk's own refusals, then 20 where the key's word is no forecast.
+#[tactic(auto, unfolding(pairing::specs::Pair::checked_of))]
 fn checked(m: State, walked: Walked, rule: u8, forecast: Contents) -> Checked
     ensures { result ≡ checked_of m walked rule forecast }
 {
@@ -65,6 +70,7 @@ fn checked(m: State, walked: Walked, rule: u8, forecast: Contents) -> Checked
 }
 
 // The check of a key by rule one or rule two, for every machine value; the caller's machine is what it was.
+#[tactic(auto, unfolding(pairing::specs::Pair::check_of))]
 pub fn check(m: State, rule: u8, key: u8) -> Checked
     ensures { result ≡ check_of m rule key }
 {

@@ -54,6 +54,7 @@ fn met(views: [View; 32], contents: [Contents; 256], key: u8, i: usize, count: u
     nothing()
 }
 
+#[tactic(auto, unfolding(protocol::specs::Words::table), using(unbroken::proofs::Fill::fill_end))]
 pub(crate) fn records(
     views: [View; 32],
     contents: [Contents; 256],

@@ -25,6 +25,7 @@ fn flag(b: bool) -> u8
 }
 
 // How many of a kind were met.
+#[tactic(auto, using(crate::proofs::Counting::count_start, crate::proofs::Counting::count_room, crate::proofs::Counting::count_step, crate::proofs::Counting::count_end))]
 fn how_many(met: [Contents; 16], kind: u32) -> u8
     ensures { result ≡ how_many kind met }
 {
@@ -47,6 +48,7 @@ fn has_bundle(c: Contents, bundle: u32) -> bool
 }
 
 // All of both kinds have the forecast's bundle number.
+#[tactic(auto, unfolding(protocol::specs::Words::all_below))]
 fn all_have(met: [Contents; 16], bundle: u32) -> bool
     ensures { result ≡ all_have bundle met }
 {
@@ -59,6 +61,7 @@ fn all_have(met: [Contents; 16], bundle: u32) -> bool
     all
 }
 
+#[tactic(auto, unfolding(pairing::specs::Pair::rule_one))]
 pub(crate) fn one(met: [Contents; 16], bundle: u32) -> bool
     ensures { result ≡ rule_one met bundle }
 {
@@ -93,6 +96,7 @@ fn is_direct(c: Contents, key: u8, causes: u16) -> bool
 }
 
 // All of both kinds are direct causes of the forecast.
+#[tactic(auto, unfolding(protocol::specs::Words::all_below))]
 fn all_direct(met: [Contents; 16], keys: [u8; 16], causes: u16) -> bool
     ensures { result ≡ all_direct causes keys met }
 {
@@ -115,6 +119,7 @@ fn later(c: Contents, kind: u32, before: u8) -> u8
 }
 
 // The sender of the one of a kind.
+#[tactic(auto, using(crate::proofs::Counting::last_start, crate::proofs::Counting::last_step, crate::proofs::Counting::last_end))]
 fn sender(met: [Contents; 16], kind: u32) -> u8
     ensures { result ≡ sender_of kind met }
 {
@@ -128,6 +133,7 @@ fn sender(met: [Contents; 16], kind: u32) -> u8
 }
 
 // What rule two adds: exactly one of each, both direct causes, both from the same sender.
+#[tactic(auto, unfolding(pairing::specs::Pair::two_adds))]
 fn adds(met: [Contents; 16], keys: [u8; 16], causes: u16) -> bool
     ensures { result ≡ two_adds met keys causes }
 {
@@ -140,6 +146,7 @@ fn adds(met: [Contents; 16], keys: [u8; 16], causes: u16) -> bool
     )
 }
 
+#[tactic(auto, unfolding(pairing::specs::Pair::rule_two))]
 pub(crate) fn two(met: [Contents; 16], bundle: u32, keys: [u8; 16], causes: u16) -> bool
     ensures { result ≡ rule_two met bundle keys causes }
 {

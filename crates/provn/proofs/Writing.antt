@@ -1,6 +1,6 @@
 -- Texts written one behind the other are one text, and what is left to write from a place of a loop on is what its turn
 -- writes and then what is left from the next. Assumes nothing.
-use Prim.Native.Nat.{ℕ, zero, suc, ◌+◌, ◌-◌, ◌/◌, ◌%◌, ◌≤◌, ◌<◌}
+use Prim.Native.Nat.{ℕ, suc, ◌+◌, ◌-◌, ◌≤◌, ◌<◌}
 use mathlib.Core.Path.{◌≡◌, refl, sym, ap, ◌∙◌}
 use mathlib.Core.Bool.{Bool, true, false}
 use mathlib.Core.List.{List, [], ◌∷◌, ◌++◌, append_assoc, map}
@@ -9,9 +9,8 @@ use native.Mathlib.Nat.{add-zero, zero-add}
 use native.Mathlib.Omega.{arith}
 use lib.ListN.{length, get_or, set, take, drop, replicate, length-set, length-take, length-replicate, drop_of_length-le}
 use lib.Seq.{drop-cons, sets, sets-eq, slice, slice-cons, take-append_seam}
-use borrow.Author.Tests.{lt-ltb, le-ltb}
+use borrow.Author.Tests.{lt-ltb}
 use Rattle.protocol.specs.Words.{bit}
-use Rattle.protocol.specs.Listing.{decimal, glyph}
 use Rattle.protocol.specs.Provn.{Line, entity, activity, was_generated_by, used, was_derived_from, bytes, words_of, line_text, text_of}
 use Rattle.protocol.specs.Provn.{entities, activities, derivations, relations, lines_of}
 use Rattle.protocol.specs.declared.View.{View}
@@ -24,44 +23,15 @@ unfolding wrote
 wrote_append s [] ys = refl
 wrote_append s (x ∷ xs) ys = wrote_append (put_of s x) xs ys
 
--- one byte more, where there is room and where there is none
-pub put_room : (out : List ℕ) (at b : ℕ) → at < length out → Writes out at (b ∷ []) (set out at b) (at + 1)
-unfolding sheet put_of wrote
-put_room out at b h = record { long = length-set out at b; same = simp (lt-ltb at (length out) h) }
-
-pub put_full : (out : List ℕ) (at b : ℕ) → length out ≤ at → Writes out at (b ∷ []) out at
-unfolding sheet put_of wrote
-put_full out at b h = record { long = refl; same = simp (le-ltb at (length out) h) }
-
 -- texts one behind the other
 pub then : {out out' out'' : List ℕ} {at at' at'' : ℕ} {xs ys : List ℕ} → Writes out at xs out' at' → Writes out' at' ys out'' at'' → Writes out at (xs ++ ys) out'' at''
 then {out = out} {at = at} {xs = xs} {ys = ys} e f =
     record { long = f.long ∙ e.long; same = f.same ∙ ap (λ (s : Sheet). wrote s ys) e.same ∙ sym (wrote_append (sheet out at) xs ys) }
 
--- a line: words and a name, then the end with its line feed; and one with two names
-pub line_of_one : {out out₁ out₂ out₃ : List ℕ} {at at₁ at₂ at₃ : ℕ} (a : List ℕ) {b : List ℕ} (c : List ℕ)
-    → Writes out at a out₁ at₁ → Writes out₁ at₁ b out₂ at₂ → Writes out₂ at₂ (c ++ (10 ∷ [])) out₃ at₃
-    → Writes out at ((a ++ (b ++ c)) ++ (10 ∷ [])) out₃ at₃
-line_of_one a {b} c e f g = rw (regroup a b c (10 ∷ [])) (then (then e f) g)
-  where
-    regroup : (a b c d : List ℕ) → (a ++ (b ++ c)) ++ d ≡ (a ++ b) ++ (c ++ d)
-    regroup a b c d = simp append_assoc
-
-pub line_of_two : {out out₁ out₂ out₃ out₄ out₅ : List ℕ} {at at₁ at₂ at₃ at₄ at₅ : ℕ} (a : List ℕ) {b : List ℕ} (c : List ℕ) {d : List ℕ} (e : List ℕ)
-    → Writes out at a out₁ at₁ → Writes out₁ at₁ b out₂ at₂ → Writes out₂ at₂ c out₃ at₃ → Writes out₃ at₃ d out₄ at₄ → Writes out₄ at₄ (e ++ (10 ∷ [])) out₅ at₅
-    → Writes out at ((a ++ (b ++ (c ++ (d ++ e)))) ++ (10 ∷ [])) out₅ at₅
-line_of_two a {b} c {d} e p q r m n = rw (regroup a b c d e (10 ∷ [])) (then (then (then (then p q) r) m) n)
-  where
-    regroup : (a b c d e f : List ℕ) → (a ++ (b ++ (c ++ (d ++ e)))) ++ f ≡ (((a ++ b) ++ c) ++ d) ++ (e ++ f)
-    regroup a b c d e f = simp append_assoc
-
 -- what is left to write, where the whole is to be written from `at` on
 pub record Left (out₀ : List ℕ) (at : ℕ) (whole out : List ℕ) (end : ℕ) (rest : List ℕ) : Type 0 where
   pub long : length out ≡ length out₀
   pub same : wrote (sheet out end) rest ≡ wrote (sheet out₀ at) whole
-
-pub left_all : {out : List ℕ} {at : ℕ} {whole : List ℕ} → Left out at whole out at whole
-left_all = record { long = refl; same = refl }
 
 pub left_none : {out₀ : List ℕ} {at : ℕ} {whole out : List ℕ} {end : ℕ} {rest : List ℕ} → Left out₀ at whole out end rest → rest ≡ []
     → Writes out₀ at whole out end
@@ -85,10 +55,6 @@ pub word_after : {out₀ : List ℕ} {at : ℕ} {whole out out' : List ℕ} {end
     → Left out₀ at whole out end (drop i text) → i < length text → Writes out end (get_or text i 0 ∷ []) out' end'
     → Left out₀ at whole out' end' (drop (i + 1) text)
 word_after text i h b w = left_after h (rw add-one (drop-cons text i 0 b)) w
-
-pub three_digits : (n : ℕ) → 100 ≤ n → n < 256 → decimal n ≡ glyph (n / 100) ∷ glyph (n / 10 % 10) ∷ glyph (n % 10) ∷ []
-unfolding decimal
-three_digits n h b = rw (le-ltb n 10 (omega arith), le-ltb n 100 h, lt-ltb n 1000 (omega arith))
 
 pub text_append : (xs ys : List Line) → text_of (xs ++ ys) ≡ text_of xs ++ text_of ys
 unfolding text_of
@@ -162,12 +128,6 @@ module _ (keys : List ℕ) (n i : ℕ) (h : n ≤ i) where
 pub causes_end : (met : Interaction) (j : ℕ) → 16 ≤ j → text_of (derivations met (16 - j) j) ≡ []
 unfolding text_of derivations
 causes_end met j h = let none : 16 - j ≡ 0 = omega arith in ap (λ (n : ℕ). text_of (derivations met n j)) none
-
--- a flag of an actor that isn't there
-pub set_behind : (l : List Bool) (i : ℕ) (b : Bool) → length l ≤ i → l ≡ set l i b
-set_behind [] i b h = refl
-set_behind (x ∷ l) zero b h = absurd (omega arith)
-set_behind (x ∷ l) (suc i) b h = ap (λ (r : List Bool). x ∷ r) (set_behind l i b (omega arith))
 
 pub document_text : (chain : List Interaction) → text_of (lines_of chain)
     ≡ (((bytes "document\nprefix r <urn:runs:>\n" ++ text_of (entities chain)) ++ text_of (activities (replicate 8 false) chain)) ++ text_of (relations chain)) ++ bytes "endDocument\n"

@@ -4,6 +4,7 @@ ghost use Rattle.protocol.specs.Listing.{decimal};
 ghost use Rattle.provn.specs.Sheet.{Writes};
 
 // One byte more, where there is room.
+#[tactic(auto, unfolding(crate::specs::Sheet::sheet, crate::specs::Sheet::put_of, crate::specs::Sheet::wrote), using(unbroken::proofs::Tests::tests))]
 pub(crate) fn put(out: &mut [u8], at: usize, b: u8) -> usize
     ensures { Writes out.old at (b ∷ []) out.new result }
 {
@@ -26,6 +27,7 @@ pub(crate) fn words(out: &mut [u8], at: usize, text: &[u8]) -> usize
     end
 }
 
+#[tactic(auto, unfolding(protocol::specs::Listing::decimal, crate::specs::Sheet::wrote), using(unbroken::proofs::Tests::tests))]
 pub(crate) fn number(out: &mut [u8], at: usize, n: u8) -> usize
     ensures { Writes out.old at (decimal n) out.new result }
 {

@@ -1,4 +1,7 @@
 // Document 02, K2: the walk of a key as a PROV-N document, into a lent buffer.
+
+#![tactic(auto)]
+
 mod bytes;
 mod chain;
 mod lines;

@@ -9,6 +9,7 @@ use crate::bytes::{number, words};
 use crate::chain::stated;
 use protocol::View;
 
+#[tactic(auto, unfolding(crate::specs::Sheet::wrote))]
 fn interaction_name(out: &mut [u8], at: usize, i: u8) -> usize
     ensures { Writes out.old at (interaction_name i) out.new result }
 {
@@ -16,6 +17,7 @@ fn interaction_name(out: &mut [u8], at: usize, i: u8) -> usize
     number(out, name, i)
 }
 
+#[tactic(auto, unfolding(crate::specs::Sheet::wrote))]
 fn actor_name(out: &mut [u8], at: usize, a: u8) -> usize
     ensures { Writes out.old at (actor_name a) out.new result }
 {
@@ -23,6 +25,7 @@ fn actor_name(out: &mut [u8], at: usize, a: u8) -> usize
     number(out, name, a)
 }
 
+#[tactic(auto, unfolding(protocol::specs::Provn::words_of, crate::specs::Sheet::wrote), using(crate::proofs::Writing::wrote_append))]
 fn entity(out: &mut [u8], at: usize, i: u8) -> usize
     ensures { Writes out.old at (line_text (Line.entity i)) out.new result }
 {
@@ -31,6 +34,7 @@ fn entity(out: &mut [u8], at: usize, i: u8) -> usize
     words(out, end, b")\n")
 }
 
+#[tactic(auto, unfolding(protocol::specs::Provn::words_of, crate::specs::Sheet::wrote), using(crate::proofs::Writing::wrote_append))]
 fn activity(out: &mut [u8], at: usize, a: u8) -> usize
     ensures { Writes out.old at (line_text (Line.activity a)) out.new result }
 {
@@ -39,6 +43,7 @@ fn activity(out: &mut [u8], at: usize, a: u8) -> usize
     words(out, end, b",-,-)\n")
 }
 
+#[tactic(auto, unfolding(protocol::specs::Provn::words_of, crate::specs::Sheet::wrote), using(crate::proofs::Writing::wrote_append))]
 fn generated(out: &mut [u8], at: usize, i: u8, a: u8) -> usize
     ensures { Writes out.old at (line_text (Line.was_generated_by i a)) out.new result }
 {
@@ -50,6 +55,7 @@ fn generated(out: &mut [u8], at: usize, i: u8, a: u8) -> usize
 }
 
 // Of what its sender used for an effect, one cause.
+#[tactic(auto, unfolding(protocol::specs::Provn::words_of, crate::specs::Sheet::wrote), using(crate::proofs::Writing::wrote_append))]
 fn used(out: &mut [u8], at: usize, views: [View; 32], effect: u8, cause: u8) -> usize
     ensures { Writes out.old at (line_text (Line.used (stated_in views effect).sender cause)) out.new result }
 {
@@ -61,6 +67,7 @@ fn used(out: &mut [u8], at: usize, views: [View; 32], effect: u8, cause: u8) -> 
     words(out, end, b",-)\n")
 }
 
+#[tactic(auto, unfolding(protocol::specs::Provn::words_of, crate::specs::Sheet::wrote), using(crate::proofs::Writing::wrote_append))]
 fn derived(out: &mut [u8], at: usize, effect: u8, cause: u8) -> usize
     ensures { Writes out.old at (line_text (Line.was_derived_from effect cause)) out.new result }
 {

@@ -37,9 +37,6 @@ pub record Going (of : State → Type 0) (s k link : ℕ) (w out : Met) (j : ℕ
   pub looked : Looked out
   pub same : (m : State) → of m → (depth : ℕ) → k ≤ depth → each (to_cause (visit_of depth m) m k link) s (k - j) j out ≡ each (to_cause (visit_of depth m) m k link) s k 0 w
 
-pub go_start : {of : State → Type 0} {s k link : ℕ} {w : Met} → Tally w → Looked w → Going of s k link w w 0
-go_start {of} {s} {k} {link} {w} t l = let e : k - 0 ≡ k = omega arith in record { low = omega arith; tally = t; looked = l; same = λ m a depth h. rw e }
-
 module _ {of : State → Type 0} {s k link : ℕ} {w out : Met} {j : ℕ} (h : Going of s k link w out j) (b : j < k) where
   -- one turn: what the loop makes of a number of the set, or of none, from here
   turned : {r : Met} → Tally r → Looked r → ((m : State) → of m → (depth : ℕ) → k ≤ depth → r ≡ pick (bit s j) (to_cause (visit_of depth m) m k link j out) out) → Going of s k link w r (j + 1)

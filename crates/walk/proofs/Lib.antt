@@ -1,4 +1,2 @@
-pub mod Tests
 pub mod Going
-pub mod Laying
 pub mod Taken

@@ -1,5 +1,8 @@
 // The walk back over what the stores' checkpoints hold: visiting a sender record calls the loop over its causes,
 // which calls the visit of each cause's record. The key falls.
+
+#![tactic(auto)]
+
 ghost use Rattle.std.specs.Prelude.{◌≡◌, true, false, not, ◌&&◌, length, get_or, ℕ, ◌+◌, ◌*◌, ◌<◌, ◌≤◌};
 ghost use Rattle.protocol.specs.Words.{bit, table};
 ghost use Rattle.protocol.specs.Broken.{broken_of};
@@ -116,6 +119,7 @@ fn both(a: bool, b: bool) -> bool
 // What the walk reads of a machine it takes from it once, as arrays that each visit is lent; a machine would be copied.
 //
 // The keys that are closed.
+#[tactic(auto, unfolding(protocol::specs::Words::table), using(unbroken::proofs::Fill::fill_end))]
 fn all_closed(views: [View; 32], repairs: [Repair; 32], entries: [Entry; 32]) -> [bool; 16]
     ensures { result ≡ table (closed_in views repairs entries) 16 }
 {
@@ -134,6 +138,7 @@ fn all_closed(views: [View; 32], repairs: [Repair; 32], entries: [Entry; 32]) ->
 }
 
 // The views that each store's checkpoint has contents of.
+#[tactic(auto, unfolding(protocol::specs::Words::table), using(unbroken::proofs::Fill::fill_end))]
 fn all_kept(shelves: [Store; 8]) -> [u32; 8]
     ensures { result ≡ table (kept_in shelves) 8 }
 {
@@ -148,6 +153,7 @@ fn all_kept(shelves: [Store; 8]) -> [u32; 8]
 }
 
 // The causes of contents, by place.
+#[tactic(auto, using(unbroken::proofs::Fill::fill_end))]
 fn all_causes(contents: [Contents; 256]) -> [u16; 256]
     ensures { result ≡ table (causes_in contents) 256 }
 {
@@ -162,6 +168,7 @@ fn all_causes(contents: [Contents; 256]) -> [u16; 256]
 }
 
 // The checkpointed viewlinks, by place.
+#[tactic(auto, using(unbroken::proofs::Fill::fill_end))]
 fn all_viewlinks(shelves: [Store; 8]) -> [u8; 256]
     ensures { result ≡ table (viewlink_in shelves) 256 }
 {
@@ -337,6 +344,7 @@ fn causes<'a>(
 }
 
 // The walk of a machine that is not broken.
+#[tactic(auto, unfolding(protocol::specs::Walk::walk_of), using(unbroken::proofs::Laws::unbroken))]
 fn walk_unbroken(m: State, key: u8) -> Walked
     requires { broken_of m ≡ false }
     ensures { result ≡ walk_of m key }
@@ -378,6 +386,7 @@ fn walk_unbroken(m: State, key: u8) -> Walked
 }
 
 // The walk back from a key, for every machine value; the caller's machine is what it was.
+#[tactic(auto, unfolding(protocol::specs::Walk::walk_of))]
 pub fn walk(m: State, key: u8) -> Walked
     ensures { result ≡ walk_of m key }
 {
