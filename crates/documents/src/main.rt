@@ -1,8 +1,12 @@
 // PROV-N into buffers that just fit and into ones that are a byte short: of a run, and the longest document there is, of a value
 // that no run reaches (each interaction has all those before it as its causes, and their receiver would have to be its sender).
-use libc::STDOUT_FILENO;
+
+#![tactic(auto)]
+
 use machine::Machine;
 use protocol::{Contents, Setup, State, Step, View, Written};
+use std::io;
+use std::io::Write;
 
 fn stepped(m: State, s: Step) -> State {
     let r = Machine { state: m }.step(s);
@@ -89,50 +93,58 @@ fn all_caused() -> State {
     m
 }
 
-fn field(n: u64) {
-    io::write_all(STDOUT_FILENO, b" ");
-    io::print_decimal(STDOUT_FILENO, n);
+fn field<W: Write>(out: &mut W, n: u64) -> io::Result<()> {
+    out.write_all(b" ")?;
+    edge::number(out, n)
 }
 
 // The bytes lent, the number, the count of bytes written, and a byte that no call may touch: 238 stood there.
-fn told(name: &[u8], room: u64, w: Written, untouched: u8) {
-    io::write_all(STDOUT_FILENO, name);
-    field(room);
-    field(w.answer as u64);
-    field(w.len as u64);
-    field(untouched as u64);
-    io::write_all(STDOUT_FILENO, b"\n");
+fn told<W: Write>(
+    out: &mut W,
+    name: &[u8],
+    room: u64,
+    w: Written,
+    untouched: u8,
+) -> io::Result<()> {
+    out.write_all(name)?;
+    field(out, room)?;
+    field(out, w.answer as u64)?;
+    field(out, w.len as u64)?;
+    field(out, untouched as u64)?;
+    out.write_all(b"\n")
 }
 
-fn of_a_run(m: State) {
+fn of_a_run<W: Write>(out: &mut W, m: State) -> io::Result<()> {
     let mut short = [238u8; 103];
     let none = provn::write(m, 15, &mut short);
-    told(b"run", 103, none, short[0]);
+    told(out, b"run", 103, none, short[0])?;
     let mut just = [238u8; 104];
     let whole = provn::write(m, 15, &mut just);
-    told(b"run", 104, whole, 238);
+    told(out, b"run", 104, whole, 238)?;
     let mut wide = [238u8; 105];
     let more = provn::write(m, 15, &mut wide);
-    told(b"run", 105, more, wide[104]);
+    told(out, b"run", 105, more, wide[104])
 }
 
-fn write(bytes: [u8; 6247], n: usize) {
+fn write<W: Write>(out: &mut W, bytes: [u8; 6247], n: usize) -> io::Result<()> {
     if n <= 6247 {
-        io::write_all(STDOUT_FILENO, &bytes[..n]);
+        out.write_all(&bytes[..n])?;
     }
+    Ok(())
 }
 
-fn longest(m: State) {
+fn longest<W: Write>(out: &mut W, m: State) -> io::Result<()> {
     let mut short = [238u8; 6246];
     let none = provn::write(m, 15, &mut short);
-    told(b"longest", 6246, none, short[0]);
+    told(out, b"longest", 6246, none, short[0])?;
     let mut just = [238u8; 6247];
     let whole = provn::write(m, 15, &mut just);
-    told(b"longest", 6247, whole, 238);
-    write(just, whole.len as usize);
+    told(out, b"longest", 6247, whole, 238)?;
+    write(out, just, whole.len as usize)
 }
 
-fn main() {
-    of_a_run(sixteen());
-    longest(all_caused());
+fn main(rt: HostRuntime) -> io::Result<()> {
+    let mut out = io::writer(&rt);
+    of_a_run(&mut out, sixteen())?;
+    longest(&mut out, all_caused())
 }

@@ -1,61 +1,64 @@
 // The lineage of a key as PROV-N: it reads a book from standard input, takes the key as its first word and, where the second
 // is `drained`, drains first; it prints the document, or `refused N`.
+
+#![tactic(auto)]
+
 ghost use Rattle.std.specs.Prelude.{◌≤◌};
 
-use libc::{STDIN_FILENO, STDOUT_FILENO};
 use protocol::State;
+use std::io;
+use std::io::Write;
+use std::rt::Env;
 
-fn write(bytes: [u8; 6247], n: usize) {
+fn write<W: Write>(out: &mut W, bytes: [u8; 6247], n: usize) -> io::Result<()> {
     if n <= 6247 {
-        io::write_all(STDOUT_FILENO, &bytes[..n]);
+        out.write_all(&bytes[..n])?;
     }
+    Ok(())
 }
 
-fn line(bytes: [u8; 1024], n: usize) {
+fn line<W: Write>(out: &mut W, bytes: [u8; 1024], n: usize) -> io::Result<()> {
     if n <= 1024 {
-        io::write_all(STDOUT_FILENO, &bytes[..n]);
+        out.write_all(&bytes[..n])?;
     }
+    Ok(())
 }
 
-fn refuse(number: u8) {
+fn refuse<W: Write>(out: &mut W, number: u8) -> io::Result<()> {
     let t = listing::refused(number);
     let bytes = t.bytes;
-    line(bytes, t.len);
+    line(out, bytes, t.len)
 }
 
-fn tell(m: State, key: u8) {
+fn tell<W: Write>(out: &mut W, m: State, key: u8) -> io::Result<()> {
     let mut text = [0u8; 6247];
     let written = provn::write(m, key, &mut text);
     if written.answer != 0 {
-        refuse(written.answer);
-        return;
+        return refuse(out, written.answer);
     }
-    write(text, written.len as usize);
+    write(out, text, written.len as usize)
 }
 
-fn tell_drained(m: State, key: u8) {
+fn tell_drained<W: Write>(out: &mut W, m: State, key: u8) -> io::Result<()> {
     let drained = drain::drain(m);
     if drained.answer != 0 {
-        refuse(drained.answer);
-        return;
+        return refuse(out, drained.answer);
     }
     let after = drained.state;
-    tell(after, key);
+    tell(out, after, key)
 }
 
-fn serve(book: &[u8], key: u8, drained: bool) {
+fn serve<W: Write>(out: &mut W, book: &[u8], key: u8, drained: bool) -> io::Result<()> {
     let mut answers = [0u8; 4096];
     let ran = runs::run(book, &mut answers);
     if ran.answer != 0 {
-        refuse(ran.answer);
-        return;
+        return refuse(out, ran.answer);
     }
     let m = ran.state;
     if drained {
-        tell_drained(m, key);
-        return;
+        return tell_drained(out, m, key);
     }
-    tell(m, key);
+    tell(out, m, key)
 }
 
 // The value of a digit; what is none is too large for any key.
@@ -126,26 +129,20 @@ fn is_drained(word: &[u8]) -> bool {
     word[6] == b'd'
 }
 
-// A word that is missing or longer than the buffer reads as an empty one.
-fn key_word() -> u8 {
+fn key_word(rt: &impl Env) -> u8 {
     let mut word = [0u8; 4];
-    let n = os::arg(1, &mut word);
-    key_of(&word[..n])
+    key_of(edge::word(rt, 1, &mut word))
 }
 
-fn drained_word() -> bool {
+fn drained_word(rt: &impl Env) -> bool {
     let mut word = [0u8; 8];
-    let n = os::arg(2, &mut word);
-    is_drained(&word[..n])
+    is_drained(edge::word(rt, 2, &mut word))
 }
 
-fn main() {
-    // One byte more than a book may have shows that there are more.
-    let mut input = [0u8; 65537];
-    let n = io::read_full(STDIN_FILENO, &mut input);
-    if 65536 < n {
-        refuse(10);
-        return;
+fn main(rt: HostRuntime) -> io::Result<()> {
+    let mut out = io::writer(&rt);
+    match edge::book(rt.reader())? {
+        Some(book) => serve(&mut out, book.as_slice(), key_word(&rt), drained_word(&rt)),
+        None => refuse(&mut out, 10),
     }
-    serve(&input[..n], key_word(), drained_word());
 }

@@ -1,81 +1,78 @@
 // Whether a forecast's weights and scaler belong together: it reads a book from standard input, takes the rule and the key as its
 // words and, where a third is `drained`, drains first; it prints `yes`, `no` or `refused N`.
-use libc::{STDIN_FILENO, STDOUT_FILENO};
+
+#![tactic(auto)]
+
 use protocol::State;
+use std::io;
+use std::io::Write;
+use std::rt::Env;
 
 mod word;
 
-fn line(bytes: [u8; 1024], n: usize) {
+fn line<W: Write>(out: &mut W, bytes: [u8; 1024], n: usize) -> io::Result<()> {
     if n <= 1024 {
-        io::write_all(STDOUT_FILENO, &bytes[..n]);
+        out.write_all(&bytes[..n])?;
     }
+    Ok(())
 }
 
-fn refuse(number: u8) {
+fn refuse<W: Write>(out: &mut W, number: u8) -> io::Result<()> {
     let t = listing::refused(number);
     let bytes = t.bytes;
-    line(bytes, t.len);
+    line(out, bytes, t.len)
 }
 
-fn say(passes: bool) {
+fn say<W: Write>(out: &mut W, passes: bool) -> io::Result<()> {
     if passes {
-        io::write_all(STDOUT_FILENO, b"yes\n");
-        return;
+        return out.write_all(b"yes\n");
     }
-    io::write_all(STDOUT_FILENO, b"no\n");
+    out.write_all(b"no\n")
 }
 
-fn tell(m: State, rule: u8, key: u8) {
+fn tell<W: Write>(out: &mut W, m: State, rule: u8, key: u8) -> io::Result<()> {
     let checked = pair_rule::check(m, rule, key);
     if checked.answer != 0 {
-        refuse(checked.answer);
-        return;
+        return refuse(out, checked.answer);
     }
-    say(checked.passes);
+    say(out, checked.passes)
 }
 
-fn tell_drained(m: State, rule: u8, key: u8) {
+fn tell_drained<W: Write>(out: &mut W, m: State, rule: u8, key: u8) -> io::Result<()> {
     let drained = drain::drain(m);
     if drained.answer != 0 {
-        refuse(drained.answer);
-        return;
+        return refuse(out, drained.answer);
     }
     let after = drained.state;
-    tell(after, rule, key);
+    tell(out, after, rule, key)
 }
 
-fn serve(book: &[u8], rule: u8) {
+fn serve<W: Write>(out: &mut W, book: &[u8], rule: u8, key: u8, drained: bool) -> io::Result<()> {
     let mut answers = [0u8; 4096];
     let ran = runs::run(book, &mut answers);
     if ran.answer != 0 {
-        refuse(ran.answer);
-        return;
+        return refuse(out, ran.answer);
     }
     let m = ran.state;
-    if word::drained() {
-        tell_drained(m, rule, word::key());
-        return;
+    if drained {
+        return tell_drained(out, m, rule, key);
     }
-    tell(m, rule, word::key());
+    tell(out, m, rule, key)
 }
 
 // The book, where the rule is one of the two.
-fn read(rule: u8) {
-    // One byte more than a book may have shows that there are more.
-    let mut input = [0u8; 65537];
-    let n = io::read_full(STDIN_FILENO, &mut input);
-    if 65536 < n {
-        refuse(10);
-        return;
+fn read<R: Input + Env, W: Write>(rt: &R, out: &mut W, rule: u8) -> io::Result<()> {
+    match edge::book(rt.reader())? {
+        Some(book) => serve(out, book.as_slice(), rule, word::key(rt), word::drained(rt)),
+        None => refuse(out, 10),
     }
-    serve(&input[..n], rule);
 }
 
-fn main() {
-    let rule = word::rule();
+fn main(rt: HostRuntime) -> io::Result<()> {
+    let mut out = io::writer(&rt);
+    let rule = word::rule(&rt);
     if pair_rule::is_rule(rule) {
-        read(rule);
-        return;
+        return read(&rt, &mut out, rule);
     }
-    refuse(19);
+    refuse(&mut out, 19)
 }

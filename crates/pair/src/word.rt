@@ -1,6 +1,8 @@
 // The program's words: the rule, the key, and `drained`.
 ghost use Rattle.std.specs.Prelude.{◌≤◌};
 
+use std::rt::Env;
+
 // The value of a digit; what is none is too large for any number.
 fn digit(b: u8) -> u32
     ensures { result ≤ 1000 }
@@ -69,23 +71,20 @@ fn is_drained(word: &[u8]) -> bool {
     word[6] == b'd'
 }
 
-// A word that is missing or longer than the buffer reads as an empty one.
-fn numbered(at: usize) -> u8 {
+fn numbered(rt: &impl Env, at: usize) -> u8 {
     let mut word = [0u8; 4];
-    let n = os::arg(at, &mut word);
-    small(&word[..n])
+    small(edge::word(rt, at, &mut word))
 }
 
-pub(crate) fn rule() -> u8 {
-    numbered(1)
+pub(crate) fn rule(rt: &impl Env) -> u8 {
+    numbered(rt, 1)
 }
 
-pub(crate) fn key() -> u8 {
-    numbered(2)
+pub(crate) fn key(rt: &impl Env) -> u8 {
+    numbered(rt, 2)
 }
 
-pub(crate) fn drained() -> bool {
+pub(crate) fn drained(rt: &impl Env) -> bool {
     let mut word = [0u8; 8];
-    let n = os::arg(3, &mut word);
-    is_drained(&word[..n])
+    is_drained(edge::word(rt, 3, &mut word))
 }

@@ -22,6 +22,7 @@ pub(crate) fn count(s: &[u8]) -> u32
 }
 
 // Four bytes behind a place, low first.
+#[tactic(auto, unfolding(activities::specs::Form::word))]
 fn word(s: &[u8], at: usize, behind: usize) -> u32
     requires at_in_bounds { at ≤ length s.now }
     requires behind_bound { behind < 64 }
@@ -31,6 +32,7 @@ fn word(s: &[u8], at: usize, behind: usize) -> u32
     byte(s, i) + byte(s, i + 1) * 256 + byte(s, i + 2) * 65536 + byte(s, i + 3) * 16777216
 }
 
+#[tactic(auto, unfolding(activities::specs::Form::activity_at))]
 fn activity(s: &[u8], at: usize) -> Activity
     requires { at ≤ length s.now }
     ensures { result ≡ activity_at s.now at }
@@ -44,6 +46,7 @@ fn activity(s: &[u8], at: usize) -> Activity
     }
 }
 
+#[tactic(auto, unfolding(activities::specs::Form::said_at))]
 fn said(s: &[u8], at: usize) -> Said
     requires { at ≤ length s.now }
     ensures { result ≡ said_at s.now at }
@@ -78,6 +81,7 @@ fn said(s: &[u8], at: usize) -> Said
 }
 
 // The message at a place.
+#[tactic(auto, unfolding(activities::specs::Form::message_at))]
 pub(crate) fn message(s: &[u8], at: usize) -> Message
     requires { at ≤ length s.now }
     ensures { result ≡ message_at s.now at }
@@ -93,6 +97,7 @@ pub(crate) fn message(s: &[u8], at: usize) -> Message
 }
 
 // How many bytes the fields of a kind take; 0 for an unknown kind.
+#[tactic(auto, unfolding(activities::specs::Form::width_of))]
 fn width(kind: u32) -> usize
     ensures { (result ≡ width_of kind) × (result ≤ 12) }
 {
@@ -109,6 +114,7 @@ fn width(kind: u32) -> usize
 }
 
 // The place behind the message at a place; 0 if none is there.
+#[tactic(auto, using(crate::proofs::Reading::next_cut, crate::proofs::Reading::next_short, crate::proofs::Reading::next_there, crate::proofs::Reading::next_unknown))]
 pub(crate) fn next(s: &[u8], at: usize) -> usize
     requires { at ≤ length s.now }
     ensures { (result ≡ next_at s.now at) × (result ≤ length s.now) }

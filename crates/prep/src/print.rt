@@ -3,129 +3,133 @@ use activities::{
     Ack, Activity, Added, Announced, Exchange, Finishing, Negotiated, Received, Side, Store,
     Transmitted,
 };
-use libc::STDOUT_FILENO;
+use std::io;
+use std::io::Write;
 
-pub(crate) fn text(s: &[u8]) {
-    io::write_all(STDOUT_FILENO, s);
+pub(crate) fn text<W: Write>(out: &mut W, s: &[u8]) -> io::Result<()> {
+    out.write_all(s)
 }
 
-fn first(n: u32) {
-    io::print_decimal(STDOUT_FILENO, n as u64);
+fn first<W: Write>(out: &mut W, n: u32) -> io::Result<()> {
+    edge::number(out, n as u64)
 }
 
-fn number(n: u32) {
-    text(b" ");
-    first(n);
+fn number<W: Write>(out: &mut W, n: u32) -> io::Result<()> {
+    text(out, b" ")?;
+    first(out, n)
 }
 
-fn flag(b: bool) {
+fn flag<W: Write>(out: &mut W, b: bool) -> io::Result<()> {
     if b {
-        number(1);
-        return;
+        return number(out, 1);
     }
-    number(0);
+    number(out, 0)
 }
 
 // The number of the kind that is acknowledged.
-fn ack(a: Ack) {
+fn ack<W: Write>(out: &mut W, a: Ack) -> io::Result<()> {
     match a {
-        Ack::NoAck => text(b" -"),
-        Ack::NegotiationAck => number(0),
-        Ack::InvocationAck => number(1),
-        Ack::ResultAck => number(2),
-        Ack::AdditionalAck => number(4),
+        Ack::NoAck => text(out, b" -"),
+        Ack::NegotiationAck => number(out, 0),
+        Ack::InvocationAck => number(out, 1),
+        Ack::ResultAck => number(out, 2),
+        Ack::AdditionalAck => number(out, 4),
     }
 }
 
 // 1 if both sides are told that all is there.
-fn finished(f: Finishing) {
+fn finished<W: Write>(out: &mut W, f: Finishing) -> io::Result<()> {
     if f.client {
-        flag(f.service);
-        return;
+        return flag(out, f.service);
     }
-    flag(false);
+    flag(out, false)
 }
 
 // NUMBER ACK FINISHED
-pub(crate) fn answer(r: Received) {
+pub(crate) fn answer<W: Write>(out: &mut W, r: Received) -> io::Result<()> {
     let a = r.ack;
-    first(r.answer as u32);
-    ack(a);
-    finished(r.finished);
-    text(b"\n");
+    first(out, r.answer as u32)?;
+    ack(out, a)?;
+    finished(out, r.finished)?;
+    text(out, b"\n")
 }
 
-fn activity(a: Activity) {
-    first(a.session);
-    number(a.nonce);
-    number(a.thread);
-    number(a.client);
-    number(a.service);
-    text(b"\n");
+fn activity<W: Write>(out: &mut W, a: Activity) -> io::Result<()> {
+    first(out, a.session)?;
+    number(out, a.nonce)?;
+    number(out, a.thread)?;
+    number(out, a.client)?;
+    number(out, a.service)?;
+    text(out, b"\n")
 }
 
-fn negotiation(x: Negotiated) {
+fn negotiation<W: Write>(out: &mut W, x: Negotiated) -> io::Result<()> {
     if x.held {
-        number(0);
-        number(x.list);
-        number(x.accepted);
-        number(x.extra);
+        number(out, 0)?;
+        number(out, x.list)?;
+        number(out, x.accepted)?;
+        number(out, x.extra)?;
     }
+    Ok(())
 }
 
 // An invocation, kind 1, or a result, kind 2.
-fn transmission(kind: u32, x: Transmitted) {
+fn transmission<W: Write>(out: &mut W, kind: u32, x: Transmitted) -> io::Result<()> {
     if x.held {
-        number(kind);
-        number(x.extra);
-        number(x.word);
+        number(out, kind)?;
+        number(out, x.extra)?;
+        number(out, x.word)?;
     }
+    Ok(())
 }
 
-fn announcement(x: Announced) {
+fn announcement<W: Write>(out: &mut W, x: Announced) -> io::Result<()> {
     if x.held {
-        number(3);
-        number(x.count);
+        number(out, 3)?;
+        number(out, x.count)?;
     }
+    Ok(())
 }
 
-fn additions(x: Added) {
+fn additions<W: Write>(out: &mut W, x: Added) -> io::Result<()> {
     let mut i: usize = 0;
     while i < 8 {
         if i < x.count as usize {
-            number(4);
-            number(x.extras[i]);
+            number(out, 4)?;
+            number(out, x.extras[i])?;
         }
         i += 1;
     }
+    Ok(())
 }
 
 // 0 the client's or 1 the service's, C, then each message held.
-fn side(role: u32, complete: bool, x: Side) {
-    first(role);
-    flag(complete);
-    negotiation(x.negotiation);
-    transmission(1, x.invocation);
-    transmission(2, x.result);
-    announcement(x.finished);
-    additions(x.additional);
-    text(b"\n");
+fn side<W: Write>(out: &mut W, role: u32, complete: bool, x: Side) -> io::Result<()> {
+    first(out, role)?;
+    flag(out, complete)?;
+    negotiation(out, x.negotiation)?;
+    transmission(out, 1, x.invocation)?;
+    transmission(out, 2, x.result)?;
+    announcement(out, x.finished)?;
+    additions(out, x.additional)?;
+    text(out, b"\n")
 }
 
-fn exchange(e: Exchange) {
+fn exchange<W: Write>(out: &mut W, e: Exchange) -> io::Result<()> {
     let complete = first_store::complete(e);
-    activity(e.activity);
-    side(0, complete, e.client);
-    side(1, complete, e.service);
+    activity(out, e.activity)?;
+    side(out, 0, complete, e.client)?;
+    side(out, 1, complete, e.service)
 }
 
 // Three lines for each activity, in the order of its first taken message.
-pub(crate) fn store(s: Store) {
+pub(crate) fn store<W: Write>(out: &mut W, s: Store) -> io::Result<()> {
     let mut i: usize = 0;
     while i < 16 {
         if i < s.used as usize {
-            exchange(s.exchanges[i]);
+            exchange(out, s.exchanges[i])?;
         }
         i += 1;
     }
+    Ok(())
 }

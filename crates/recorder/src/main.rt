@@ -1,18 +1,23 @@
 // Document 01's program: it reads a book from standard input and prints the listing of its run, or `refused N`.
-use libc::{STDIN_FILENO, STDOUT_FILENO};
+
+#![tactic(auto)]
+
 use listing::Text;
 use protocol::Ran;
+use std::io;
+use std::io::Write;
 
 // The first n bytes.
-fn write(bytes: [u8; 1024], n: usize) {
+fn write<W: Write>(out: &mut W, bytes: [u8; 1024], n: usize) -> io::Result<()> {
     if n <= 1024 {
-        io::write_all(STDOUT_FILENO, &bytes[..n]);
+        out.write_all(&bytes[..n])?;
     }
+    Ok(())
 }
 
-fn print(t: Text) {
+fn print<W: Write>(out: &mut W, t: Text) -> io::Result<()> {
     let bytes = t.bytes;
-    write(bytes, t.len);
+    write(out, bytes, t.len)
 }
 
 fn answer(ran: Ran) -> Text {
@@ -23,18 +28,15 @@ fn answer(ran: Ran) -> Text {
     listing::listing(m, ran.steps, ran.taken)
 }
 
-fn serve(book: &[u8]) {
+fn serve<W: Write>(out: &mut W, book: &[u8]) -> io::Result<()> {
     let mut answers = [0u8; 4096];
-    print(answer(runs::run(book, &mut answers)));
+    print(out, answer(runs::run(book, &mut answers)))
 }
 
-fn main() {
-    // One byte more than a book may have shows that there are more.
-    let mut input = [0u8; 65537];
-    let n = io::read_full(STDIN_FILENO, &mut input);
-    if 65536 < n {
-        print(listing::refused(10));
-        return;
+fn main(rt: HostRuntime) -> io::Result<()> {
+    let mut out = io::writer(&rt);
+    match edge::book(rt.reader())? {
+        Some(book) => serve(&mut out, book.as_slice()),
+        None => print(&mut out, listing::refused(10)),
     }
-    serve(&input[..n]);
 }

@@ -7,69 +7,73 @@ use crate::row::Row;
 use machine::Machine;
 use protocol::{Entry, Ran, Read, State, View};
 use runs::reader;
+use std::io;
+use std::io::Write;
 
 // T kind fields: the answer.
-fn step(m: State, n: [u8; 64]) {
+fn step<W: Write>(out: &mut W, m: State, n: [u8; 64]) -> io::Result<()> {
     if let Read::Got(s, _) = reader::step_at(&n, 1) {
         let r = Machine { state: m }.step(s);
-        print::small(r.answer);
+        print::small(out, r.answer)?;
     }
+    Ok(())
 }
 
 // D: the answer and the count.
-fn drain(m: State) {
+fn drain<W: Write>(out: &mut W, m: State) -> io::Result<()> {
     let d = drain::drain(m);
-    print::small(d.answer);
-    print::wide(d.count as u64);
+    print::small(out, d.answer)?;
+    print::wide(out, d.count as u64)
 }
 
-fn keys(met: [u8; 16], count: u8) {
+fn keys<W: Write>(out: &mut W, met: [u8; 16], count: u8) -> io::Result<()> {
     let mut i: usize = 0;
     while i < 16 {
         if i < count as usize {
-            print::small(met[i]);
+            print::small(out, met[i])?;
         }
         i += 1;
     }
+    Ok(())
 }
 
 // W key: the answer, how many keys, and the keys.
-fn walk(m: State, key: u8) {
+fn walk<W: Write>(out: &mut W, m: State, key: u8) -> io::Result<()> {
     let w = walk::walk(m, key);
     let met = w.keys;
-    print::small(w.answer);
-    print::small(w.count);
-    keys(met, w.count);
+    print::small(out, w.answer)?;
+    print::small(out, w.count)?;
+    keys(out, met, w.count)
 }
 
 // v key role: phase, data, store, viewlink, changed, and the link of cause 0.
-fn view(w: View) {
-    print::small(w.phase);
-    print::wide(w.word as u64);
-    print::small(w.store);
-    print::small(w.viewlink);
-    print::flag(w.changed);
-    print::small(w.links[0]);
+fn view<W: Write>(out: &mut W, w: View) -> io::Result<()> {
+    print::small(out, w.phase)?;
+    print::wide(out, w.word as u64)?;
+    print::small(out, w.store)?;
+    print::small(out, w.viewlink)?;
+    print::flag(out, w.changed)?;
+    print::small(out, w.links[0])
 }
 
 // e key role: status, destination, own.
-fn entry(e: Entry) {
+fn entry<W: Write>(out: &mut W, e: Entry) -> io::Result<()> {
     let s = e.status;
-    print::small(protocol::status_number(s));
-    print::small(e.destination);
-    print::small(e.own);
+    print::small(out, protocol::status_number(s))?;
+    print::small(out, e.destination)?;
+    print::small(out, e.own)
 }
 
 // f store key role: records, acks, updates, uacks, and the working viewlink.
-fn place(m: State, at: usize)
+fn place<W: Write>(out: &mut W, m: State, at: usize) -> io::Result<()>
     requires { at < 256 }
 {
-    print::small(m.records[at]);
-    print::small(m.acks[at]);
-    print::small(m.updates[at]);
-    print::small(m.uacks[at]);
+    print::small(out, m.records[at])?;
+    print::small(out, m.acks[at])?;
+    print::small(out, m.updates[at])?;
+    print::small(out, m.uacks[at])?;
     let s = m.shelves[at / 32];
-    print::small(s.viewlinks[at % 32]);
+    print::small(out, s.viewlinks[at % 32])
 }
 
 fn has(set: u32, v: usize) -> bool
@@ -79,86 +83,86 @@ fn has(set: u32, v: usize) -> bool
 }
 
 // s store key role: held, kept, ackowed, uackowed, keptlink, then asserter, data and causes.
-fn stored(m: State, at: usize)
+fn stored<W: Write>(out: &mut W, m: State, at: usize) -> io::Result<()>
     requires { at < 256 }
 {
     let s = m.shelves[at / 32];
     let v = at % 32;
-    print::flag(has(s.held, v));
-    print::flag(has(s.kept, v));
-    print::flag(has(s.acksowed, v));
-    print::flag(has(s.uacksowed, v));
-    print::small(s.keptlinks[v]);
+    print::flag(out, has(s.held, v))?;
+    print::flag(out, has(s.kept, v))?;
+    print::flag(out, has(s.acksowed, v))?;
+    print::flag(out, has(s.uacksowed, v))?;
+    print::small(out, s.keptlinks[v])?;
     let c = m.contents[at];
-    print::small(c.asserter);
-    print::wide(c.word as u64);
-    print::wide(c.causes as u64);
+    print::small(out, c.asserter)?;
+    print::wide(out, c.word as u64)?;
+    print::wide(out, c.causes as u64)
 }
 
-fn looked(m: State, n: [u8; 64], letter: u8) {
+fn looked<W: Write>(out: &mut W, m: State, n: [u8; 64], letter: u8) -> io::Result<()> {
     let v = view_at(n[1], n[2]);
     match letter {
-        b'v' => view(m.views[v]),
-        b'e' => entry(m.entries[v]),
-        b'f' => place(m, place_at(n[1], n[2], n[3])),
-        b's' => stored(m, place_at(n[1], n[2], n[3])),
-        _ => {}
+        b'v' => view(out, m.views[v]),
+        b'e' => entry(out, m.entries[v]),
+        b'f' => place(out, m, place_at(n[1], n[2], n[3])),
+        b's' => stored(out, m, place_at(n[1], n[2], n[3])),
+        _ => Ok(()),
     }
 }
 
 // The number of a run, its steps and those taken, and the counts of its state.
-fn ran(r: Ran) {
+fn ran<W: Write>(out: &mut W, r: Ran) -> io::Result<()> {
     let m = r.state;
-    print::small(r.answer);
-    print::wide(r.steps as u64);
-    print::wide(r.taken as u64);
-    print::small(m.stores);
-    print::small(m.actors);
-    print::small(m.made);
+    print::small(out, r.answer)?;
+    print::wide(out, r.steps as u64)?;
+    print::wide(out, r.taken as u64)?;
+    print::small(out, m.stores)?;
+    print::small(out, m.actors)?;
+    print::small(out, m.made)
 }
 
-fn buffer(a: [u8; 4]) {
-    print::small(a[0]);
-    print::small(a[1]);
-    print::small(a[2]);
-    print::small(a[3]);
+fn buffer<W: Write>(out: &mut W, a: [u8; 4]) -> io::Result<()> {
+    print::small(out, a[0])?;
+    print::small(out, a[1])?;
+    print::small(out, a[2])?;
+    print::small(out, a[3])
 }
 
 // A run with so many bytes of a buffer of four, each 99 before, and what is in the four bytes after.
-fn run(book: &[u8], room: usize)
+fn run<W: Write>(out: &mut W, book: &[u8], room: usize) -> io::Result<()>
     requires { room ≤ 4 }
 {
     let mut a = [99u8; 4];
     let r = runs::run(book, &mut a[..room]);
-    ran(r);
-    buffer(a);
+    ran(out, r)?;
+    buffer(out, a)
 }
 
 // K room book: the room is 0 to 4.
-fn lent(n: [u8; 64], count: u8) {
+fn lent<W: Write>(out: &mut W, n: [u8; 64], count: u8) -> io::Result<()> {
     let room = n[1] as usize;
     let end = count as usize + 1;
     if 4 < room {
-        return;
+        return Ok(());
     }
     if end < 2 {
-        return;
+        return Ok(());
     }
     if 64 < end {
-        return;
+        return Ok(());
     }
-    run(&n[2..end], room);
+    run(out, &n[2..end], room)
 }
 
-pub(crate) fn answered(m: State, row: Row) {
+pub(crate) fn answered<W: Write>(out: &mut W, m: State, row: Row) -> io::Result<()> {
     let n = row.numbers;
     let letter = row.letter;
     match letter {
-        b'B' => print::flag(broken::is_broken(m)),
-        b'T' => step(m, n),
-        b'D' => drain(m),
-        b'W' => walk(m, n[1]),
-        b'K' => lent(n, row.count),
-        _ => looked(m, n, letter),
+        b'B' => print::flag(out, broken::is_broken(m)),
+        b'T' => step(out, m, n),
+        b'D' => drain(out, m),
+        b'W' => walk(out, m, n[1]),
+        b'K' => lent(out, n, row.count),
+        _ => looked(out, m, n, letter),
     }
 }

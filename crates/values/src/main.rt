@@ -1,15 +1,20 @@
 // Values that no run reaches, made by hand slot by slot from the table on standard input, whose head gives its
 // form. Each case is printed in a line: its name, and what the calls answer.
+
+#![tactic(auto)]
+
+use arrayvec::ArrayVec;
+use std::io;
+use std::io::Write;
+
 mod ask;
 mod change;
 mod print;
 mod row;
 mod table;
 
-use libc::STDIN_FILENO;
-
-fn main() {
-    let mut input = [0u8; 32768];
-    let n = io::read_full(STDIN_FILENO, &mut input);
-    table::read(&input[..n]);
+fn main(rt: HostRuntime) -> io::Result<()> {
+    let mut out = io::writer(&rt);
+    let table: ArrayVec<u8, 32768> = edge::up_to(rt.reader())?;
+    table::read(&mut out, table.as_slice())
 }

@@ -1,24 +1,25 @@
 // Pieces of a line on standard output. A number has one space before it.
-use libc::STDOUT_FILENO;
 
-pub(crate) fn byte(b: u8) {
+use std::io;
+use std::io::Write;
+
+pub(crate) fn byte<W: Write>(out: &mut W, b: u8) -> io::Result<()> {
     let one = [b];
-    io::write_all(STDOUT_FILENO, &one);
+    out.write_all(&one)
 }
 
-pub(crate) fn wide(n: u64) {
-    byte(b' ');
-    io::print_decimal(STDOUT_FILENO, n);
+pub(crate) fn wide<W: Write>(out: &mut W, n: u64) -> io::Result<()> {
+    byte(out, b' ')?;
+    edge::number(out, n)
 }
 
-pub(crate) fn small(n: u8) {
-    wide(n as u64);
+pub(crate) fn small<W: Write>(out: &mut W, n: u8) -> io::Result<()> {
+    wide(out, n as u64)
 }
 
-pub(crate) fn flag(b: bool) {
+pub(crate) fn flag<W: Write>(out: &mut W, b: bool) -> io::Result<()> {
     if b {
-        small(1);
-        return;
+        return small(out, 1);
     }
-    small(0);
+    small(out, 0)
 }

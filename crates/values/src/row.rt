@@ -1,5 +1,5 @@
 // A row of the table: a letter, and numbers, each with one space before it.
-#[derive(Drop)]
+#[derive(Clone, Copy)]
 pub(crate) struct Row {
     pub letter: u8,
     // The first number stands at 1.

@@ -2,6 +2,8 @@
 use crate::row::Row;
 use crate::{ask, change, print, row};
 use protocol::State;
+use std::io;
+use std::io::Write;
 
 // What the byte behind this one stands in, as a byte that begins it: a new line, a comment, a base, a name (a
 // letter), or the rows of a case.
@@ -27,45 +29,53 @@ fn opens(byte: u8) -> u8 {
 }
 
 // A name is printed as it is read, and a case ends its line.
-fn echo(part: u8, byte: u8) {
+fn echo<W: Write>(out: &mut W, part: u8, byte: u8) -> io::Result<()> {
     if part == b'a' {
-        print::byte(byte);
+        print::byte(out, byte)?;
     }
     if part == b':' && byte == b'\n' {
-        print::byte(byte);
+        print::byte(out, byte)?;
     }
     if part == b'\n' && opens(byte) == b'a' && byte != b'\n' {
-        print::byte(byte);
+        print::byte(out, byte)?;
     }
+    Ok(())
 }
 
 // A row is done: what it asks is answered, in a case, and what it changes is changed.
-fn applied(m: State, row: Row, part: u8) -> State {
+fn applied<W: Write>(out: &mut W, m: State, row: Row, part: u8) -> io::Result<State> {
     if part == b':' {
-        ask::answered(m, row);
+        ask::answered(out, m, row)?;
     }
-    change::changed(m, row)
+    Ok(change::changed(m, row))
 }
 
-fn written(m: State, row: Row, part: u8, byte: u8) -> State {
+fn written<W: Write>(out: &mut W, m: State, row: Row, part: u8, byte: u8) -> io::Result<State> {
     match byte {
-        b';' | b'\n' => applied(m, row, part),
-        _ => m,
+        b';' | b'\n' => applied(out, m, row, part),
+        _ => Ok(m),
     }
 }
 
 // The state behind a byte: a base starts from setup M, a case from the base.
-fn stated(base: State, m: State, row: Row, part: u8, byte: u8) -> State {
+fn stated<W: Write>(
+    out: &mut W,
+    base: State,
+    m: State,
+    row: Row,
+    part: u8,
+    byte: u8,
+) -> io::Result<State> {
     if part == b':' {
-        return written(m, row, part, byte);
+        return written(out, m, row, part, byte);
     }
     if part == b'=' {
-        return written(m, row, part, byte);
+        return written(out, m, row, part, byte);
     }
     if follows(part, byte) == b'=' {
-        return change::fresh();
+        return Ok(change::fresh());
     }
-    base
+    Ok(base)
 }
 
 // The base behind a byte: what a base's line comes to.
@@ -76,7 +86,7 @@ fn based(base: State, m: State, part: u8, byte: u8) -> State {
     base
 }
 
-pub(crate) fn read(table: &[u8]) {
+pub(crate) fn read<W: Write>(out: &mut W, table: &[u8]) -> io::Result<()> {
     let mut base = change::fresh();
     let mut m = base;
     let mut row = row::lettered(b' ');
@@ -84,11 +94,12 @@ pub(crate) fn read(table: &[u8]) {
     let mut i: usize = 0;
     while i < table.len() {
         let byte = table[i];
-        m = stated(base, m, row, part, byte);
+        m = stated(out, base, m, row, part, byte)?;
         base = based(base, m, part, byte);
-        echo(part, byte);
+        echo(out, part, byte)?;
         row = row::fed(row, byte);
         part = follows(part, byte);
         i += 1;
     }
+    Ok(())
 }
