@@ -1,9 +1,9 @@
 -- A loop that counts its turns down makes the turns of the definition: what is left from here gives what all give from the start.
 -- Assumes nothing.
-use Rattle.std.proofs.Common.{◌≡◌, ℕ, zero, suc, ◌+◌, ◌-◌, ◌%◌, ◌^◌, ◌<◌, ◌≤◌, set, sym, refl, ap, ◌∙◌, arith}
+use Rattle.std.proofs.Common.{◌≡◌, ℕ, zero, suc, ◌+◌, ◌-◌, ◌%◌, ◌<◌, ◌≤◌, set, sym, refl, ap, ◌∙◌, arith}
 use Rattle.protocol.specs.Writes.{with_acks}
 use Rattle.protocol.specs.declared.State.{State}
-use Rattle.bench.specs.Turns.{turns, turn, turned, summed}
+use Rattle.bench.specs.Turns.{turns, turn, summed}
 
 pub record Turning {A : Type 0} (f : ℕ → A → A) (all : ℕ) (from : A) (left : ℕ) (now : A) : Type 0 where
   pub same : turns f left now ≡ turns f all from

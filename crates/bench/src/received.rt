@@ -45,6 +45,7 @@ fn negotiation(session: u32, extra: u32) -> Message
 }
 
 // The store after the client's invocation in each of so many activities.
+#[tactic(auto, unfolding(crate::specs::Received::filled), using(crate::proofs::Receiving::fill_next))]
 pub(crate) fn filled(count: u32) -> Store
     ensures { result ≡ filled_of count }
 {
@@ -67,6 +68,7 @@ fn told(number: u8, count: u8) -> u32
 }
 
 // The client's negotiation of an activity, with another field each turn.
+#[tactic(auto, using(crate::proofs::Receiving::told_of, crate::proofs::Turning::turn_made, crate::proofs::Turning::turns_end, crate::proofs::Turning::turns_start))]
 pub(crate) fn turns(s: Store, session: u32, times: u32) -> u32
     ensures { result ≡ turns (λ left sum. summed sum (receive_told (negotiation_of session left) s)) times 0 }
 {

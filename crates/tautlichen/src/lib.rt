@@ -1,5 +1,8 @@
 // The recorder as a library for callers in C, C++ and Rust: functions on numbers and byte slices. Each call is a function
 // of a book as the machine's history, answers document 01's number, and writes nothing where it refuses.
+
+#![tactic(auto)]
+
 ghost use Rattle.std.specs.Prelude.{◌≡◌, length, ltb};
 ghost use Rattle.protocol.specs.Words.{one, pick};
 ghost use Rattle.protocol.specs.Run.{run_of, buffer_of};
@@ -12,6 +15,7 @@ ghost use Rattle.pairing.specs.Pair.{check_of};
 use protocol::{Ran, State};
 
 // Writes the listing of a machine after so many steps, of which so many were taken, and its length.
+#[tactic(auto, using(crate::proofs::Showing::listing_shows))]
 fn show(m: State, steps: u16, taken: u16, text: &mut [u8], len: &mut u16) -> u8
     ensures number { result ≡ short_no (listing_of m steps taken) text.old }
     ensures text { text.new ≡ lent result (over (listing_of m steps taken) text.old) text.old }
@@ -50,8 +54,7 @@ fn after(book: &[u8]) -> Ran
 }
 
 // Runs a book, and writes each step's number into the answers. Refused with 10, 11, 12.
-#[unsafe(no_mangle)]
-pub extern "C" fn tautlichen_run(book: &[u8], answers: &mut [u8]) -> u8
+pub fn tautlichen_run(book: &[u8], answers: &mut [u8]) -> u8
     ensures number { result ≡ (run_of book.now (length answers.old)).answer }
     ensures answers { answers.new ≡ buffer_of book.now answers.old }
 {
@@ -60,13 +63,8 @@ pub extern "C" fn tautlichen_run(book: &[u8], answers: &mut [u8]) -> u8
 }
 
 // The same, with the listing in `text` and its length in `len`. Refused with 10, 11, 12, then 14.
-#[unsafe(no_mangle)]
-pub extern "C" fn tautlichen_list(
-    book: &[u8],
-    answers: &mut [u8],
-    text: &mut [u8],
-    len: &mut u16,
-) -> u8
+#[tactic(auto, using(crate::proofs::Listed::answered, crate::proofs::Listed::fits, crate::proofs::Listed::listed, crate::proofs::Listed::refused, crate::proofs::Listed::shown, lending::proofs::Copying::whole))]
+pub fn tautlichen_list(book: &[u8], answers: &mut [u8], text: &mut [u8], len: &mut u16) -> u8
     ensures number { result ≡ list_no book.now answers.old text.old }
     ensures answers { answers.new ≡ lent result (buffer_of book.now answers.old) answers.old }
     ensures text { text.new ≡ lent result (over (list_text book.now answers.old) text.old) text.old }
@@ -90,13 +88,8 @@ pub extern "C" fn tautlichen_list(
 
 // Drains the machine after a book: the count of steps, and the listing after it with its length. Refused with 10, 11, then 5,
 // then 14.
-#[unsafe(no_mangle)]
-pub extern "C" fn tautlichen_drain(
-    book: &[u8],
-    text: &mut [u8],
-    len: &mut u16,
-    count: &mut u16,
-) -> u8
+#[tactic(auto, using(crate::proofs::Refusing::drain_refused, crate::proofs::Refusing::drain_shown, crate::proofs::Refusing::drain_text_holds, crate::proofs::Refusing::drain_unrun, crate::proofs::Refusing::drained))]
+pub fn tautlichen_drain(book: &[u8], text: &mut [u8], len: &mut u16, count: &mut u16) -> u8
     ensures number { result ≡ drain_no book.now text.old }
     ensures text { text.new ≡ lent result (over (drain_text book.now) text.old) text.old }
     ensures len { len.new ≡ lent result (length (drain_text book.now)) len.old }
@@ -121,8 +114,8 @@ pub extern "C" fn tautlichen_drain(
 }
 
 // Walks back from a key in the machine after a book: the keys met, and how many. Refused with 10, 11, then 2, 13, then 14.
-#[unsafe(no_mangle)]
-pub extern "C" fn tautlichen_walk(
+#[tactic(auto, using(crate::proofs::Refusing::walk_refused, crate::proofs::Refusing::walk_shown, crate::proofs::Refusing::walk_unrun, crate::proofs::Refusing::walked, reaches::proofs::Laws::keys_few))]
+pub fn tautlichen_walk(
     book: &[u8],
     key: u8,
     keys: &mut [u8],
@@ -155,8 +148,8 @@ pub extern "C" fn tautlichen_walk(
 
 // Writes the walk of a key in the machine after a book as a PROV-N document, and its length. Refused with 10, 11, then 2, 13,
 // then 14.
-#[unsafe(no_mangle)]
-pub extern "C" fn tautlichen_lineage(book: &[u8], key: u8, text: &mut [u8], len: &mut u16) -> u8
+#[tactic(auto, using(crate::proofs::Refusing::lineage_long, crate::proofs::Refusing::lineage_text_holds, crate::proofs::Refusing::lineage_told_holds, crate::proofs::Refusing::lineage_unrun))]
+pub fn tautlichen_lineage(book: &[u8], key: u8, text: &mut [u8], len: &mut u16) -> u8
     ensures number { result ≡ lineage_no book.now key text.old }
     ensures text { text.new ≡ lent result (over (lineage_text book.now key) text.old) text.old }
     ensures len { len.new ≡ lent result (length (lineage_text book.now key)) len.old }
@@ -204,8 +197,8 @@ fn paired(ran: Ran, rule: u8, key: u8, passes: &mut u8) -> u8
 
 // Checks the pair of a forecast by rule 1 or 2 in the machine after a book: 1 where it passes, else 0. Refused with 19, 10, 11,
 // then 2, 13, 20.
-#[unsafe(no_mangle)]
-pub extern "C" fn tautlichen_pair(book: &[u8], rule: u8, key: u8, passes: &mut u8) -> u8
+#[tactic(auto, unfolding(crate::specs::Calls::pair_no))]
+pub fn tautlichen_pair(book: &[u8], rule: u8, key: u8, passes: &mut u8) -> u8
     ensures number { result ≡ pair_no book.now rule key }
     ensures passes { passes.new ≡ lent result (one (pair_after book.now rule key).passes) passes.old }
 {
