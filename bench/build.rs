@@ -1,4 +1,4 @@
-//! Links the static libraries that `rt staticlib` writes: what is measured by itself, and the library as it is used.
+//! Links the static libraries that `.ci/staticlib` writes: what is measured by itself, and the library as it is used.
 
 use std::env;
 

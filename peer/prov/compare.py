@@ -7,7 +7,7 @@
 What a walk met, who sent it and of what causes comes from the peer's `inspect`, not from the
 text that is compared. From that a document is built with the library, and the statements that
 the program printed are compared with the library's, one by one and in their order. Ends with 1
-if one differs, and with 0 if the library isn't installed, but says so.
+if one differs, and with 2 if the library isn't installed.
 """
 
 import pathlib
@@ -20,7 +20,7 @@ try:
     from prov.model import ProvDocument
 except ImportError:
     print("python3-prov isn't installed: no lineage is compared with it")
-    sys.exit(0)
+    sys.exit(2)
 
 EXAMPLES = pathlib.Path(__file__).resolve().parent.parent.parent / "examples"
 NAMESPACE = ("r", "urn:runs:")
