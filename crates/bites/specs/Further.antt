@@ -97,7 +97,7 @@ pub record BreaksDrain (drain : State → Drained) (steps : List Step) : Type 0 
   pub unclosed : closed_of (drain (after M steps)).state 0 ≡ false
   pub refuted : ¬ DrainedBy drain
 
--- 7. A walk that stops at the causes of its key, as walkOf but for the causes' causes.
+-- 7. A walk that stops at the causes of its key, as walk_of but for the causes' causes.
 unfoldable pub short_walk : State → ℕ → Walked
 short_walk m k =
     let w = visit_of 2 m k ((view m (number k 0)).store + 1) unmet in

@@ -23,7 +23,7 @@ Rules = State → Step → State
 abbrev pub right : Rules
 right = after_of
 
--- as stepOf
+-- as step_of
 unfoldable pub step_by : Rules → State → Step → Outcome
 step_by rules m s = pick (broken_of m) (answered 1 m) (decided (number_of m s) m (rules m s))
 

@@ -29,7 +29,7 @@ first_at place line = number_in 0 (drop place line)
 abbrev pub second_at : ℕ → List ℕ → ℕ
 second_at place line = number_in 0 (drop 4 (behind (drop place line)))
 
--- 100 `d`, 112 `p`, 97 `a`, 117 `u`, 101 `e`, else `w`; 116 `t` in `entity`, 71 `G` in `was_generated_by`
+-- 100 `d`, 112 `p`, 97 `a`, 117 `u`, 101 `e`, else `w`; 116 `t` in `entity`, 71 `G` in `wasGeneratedBy`
 unfoldable pub line_read : List ℕ → Line
 line_read line =
     pick (eqb (get_or line 0 0) 100) document

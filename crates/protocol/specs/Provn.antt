@@ -63,7 +63,7 @@ activities declared (met ∷ chain) =
     pick (get_or declared met.sender false) (activities declared chain)
     (activity met.sender ∷ activities (set declared met.sender true) chain)
 
--- for each cause, rising, `used(r:a0,r:i0,-)` by the same sender and `was_derived_from(r:i1,r:i0)`, effect first
+-- for each cause, rising, `used(r:a0,r:i0,-)` by the same sender and `wasDerivedFrom(r:i1,r:i0)`, effect first
 -- (the causes among the n numbers from j)
 unfoldable pub derivations : Interaction → ℕ → ℕ → List Line
 derivations met zero j = []
@@ -71,7 +71,7 @@ derivations met (suc n) j =
     pick (bit met.causes j) (used met.sender j ∷ was_derived_from met.key j ∷ derivations met n (j + 1))
     (derivations met n (j + 1))
 
--- then for each interaction `was_generated_by(r:i0,r:a0,-)` and its causes
+-- then for each interaction `wasGeneratedBy(r:i0,r:a0,-)` and its causes
 unfoldable pub relations : List Interaction → List Line
 relations [] = []
 relations (met ∷ chain) = was_generated_by met.key met.sender ∷ (derivations met 16 0 ++ relations chain)

@@ -85,7 +85,7 @@ fn has(set: u16, j: u8) -> bool
     (set >> j) % 2 == 1
 }
 
-// For each cause, rising: `used` by the same sender, then `was_derived_from`, effect first.
+// For each cause, rising: `used` by the same sender, then `wasDerivedFrom`, effect first.
 fn causes(out: &mut [u8], at: usize, views: [View; 32], key: u8) -> usize
     ensures { Writes out.old at (text_of (derivations (stated_in views key) 16 0)) out.new result }
 {
