@@ -24,7 +24,8 @@ pub fn book<R: Read + Drop>(reader: R) -> io::Result<Option<ArrayVec<u8, 65537>>
 {
     // One byte more than a book may have shows that there are more.
     let bytes = up_to(reader)?;
-    if 65536 < bytes.len() {
+    let more = 65536 < bytes.len();
+    if more {
         return Ok(None);
     }
     Ok(Some(bytes))

@@ -6,5 +6,5 @@ mod print;
 mod words;
 
 pub use input::{book, up_to};
-pub use print::{field, number};
+pub use print::number;
 pub use words::word;

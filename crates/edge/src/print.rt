@@ -1,5 +1,5 @@
 // Decimal numbers on a writer.
-ghost use Rattle.std.specs.Prelude.{OnOk, ◌++◌, ◌∷◌};
+ghost use Rattle.std.specs.Prelude.{OnOk};
 ghost use Rattle.std.specs.Io.KnownBytes.{Appends};
 ghost use Rattle.std.specs.Fmt.{decimal};
 
@@ -10,11 +10,4 @@ pub fn number<W: Write>(out: &mut W, n: u64) -> io::Result<()>
     ensures { OnOk result (Appends (W.contents out.old) (W.contents out.new) (decimal n)) }
 {
     write!(out, "{n}")
-}
-
-// With one blank before it.
-pub fn field<W: Write>(out: &mut W, n: u64) -> io::Result<()>
-    ensures { OnOk result (Appends (W.contents out.old) (W.contents out.new) (32 ∷ decimal n)) }
-{
-    write!(out, " {n}")
 }

@@ -5,6 +5,7 @@
 ghost use Rattle.std.specs.Prelude.{◌≡◌, ◌+◌, ◌<◌, get_or};
 ghost use Rattle.protocol.specs.Slots.{no_store};
 ghost use Rattle.listing.specs.Text.{no_text, put_of, wrote};
+ghost use Rattle.listing.specs.Whole.{ListingShown, ListingLength, RefusalShown, OneListing, OneRefusal};
 ghost use Rattle.protocol.specs.Listing.{large, decimal, refused_line, counts_line, link_text, place_text, view_line, line_of, lines_to, listing_of};
 
 use protocol::{State, Store};
@@ -201,3 +202,13 @@ pub fn listing(m: State, steps: u16, taken: u16) -> Text
         .counts(m.stores, m.actors, m.made, steps, taken)
         .views(m)
 }
+
+// The laws of the listing: each fits its text, and what is written is the listing.
+#[tactic(auto, using(crate::proofs::Whole::listing_shown, crate::proofs::Whole::listing_length, crate::proofs::Whole::refusal_shown, crate::proofs::Whole::one_listing, crate::proofs::Whole::one_refusal))]
+pub fn laws()
+    ensures shown { ListingShown }
+    ensures length { ListingLength }
+    ensures refusal { RefusalShown }
+    ensures one { OneListing }
+    ensures one_refusal { OneRefusal }
+{}

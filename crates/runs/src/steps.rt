@@ -23,7 +23,8 @@ pub(crate) fn run_steps(s: &[u8], n: u16, from: usize, m: State, answers: &mut [
     while i < n {
         let l = batch::reach(s, at, batch::wanted(n - i));
         let count = l.count;
-        if count == 0 {
+        let ends = count == 0;
+        if ends {
             let m = r.machine;
             let state = m.state;
             return Ran {

@@ -11,6 +11,7 @@ ghost use Rattle.protocol.specs.Listing.{listing_of};
 ghost use Rattle.protocol.specs.Lent.{first, lent, short_no, over};
 ghost use Rattle.tautlichen.specs.Calls.{list_text, list_no, history, drain_after, drain_text, drain_no, walk_after, walk_no, lineage_text, lineage_no, pair_after, pair_no};
 ghost use Rattle.pairing.specs.Pair.{check_of};
+ghost use Rattle.tautlichen.specs.Only.{EveryExport};
 
 use protocol::{Ran, State};
 
@@ -207,3 +208,9 @@ pub fn tautlichen_pair(book: &[u8], rule: u8, key: u8, passes: &mut u8) -> u8
     }
     19
 }
+
+// No two results of a call can both satisfy its promise.
+#[tactic(auto, using(crate::proofs::Only::every_export))]
+pub fn laws()
+    ensures { EveryExport }
+{}

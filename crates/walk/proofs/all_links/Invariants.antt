@@ -1,4 +1,4 @@
--- The links of one sender more are laid in each turn (proofs/Laying). Assumes nothing.
+-- The links of one sender more are laid in each turn (`LaidOut`). Assumes nothing.
 use Rattle.std.proofs.Common.{◌-◌}
 use Rattle.walk.specs.Past.{LaidOut}
 use Rattle.walk.proofs.all_links.Given as goal

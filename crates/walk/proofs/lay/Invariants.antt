@@ -1,4 +1,4 @@
--- One link more is laid in each turn (proofs/Laying). Assumes nothing.
+-- One link more is laid in each turn (`Laid`). Assumes nothing.
 use Rattle.std.proofs.Common.{◌-◌}
 use Rattle.walk.specs.Past.{Laid}
 use Rattle.walk.proofs.lay.Given as goal

@@ -14,8 +14,8 @@ whole n (Some xs) read e h =
     e ∙ take_all (n + 1) xs k
 whole n None read e h = tt
 
-pub returns-then-len-gt65536-clause-more : goal.returns-then-len-gt65536-clause-more
-returns-then-len-gt65536-clause-more g c =
+pub returns-then-more-clause-more : goal.returns-then-more-clause-more
+returns-then-more-clause-more g c =
     let long : 65536 < length c.in_ok-bytes.bytes.items = omega arith in
     λ e. longer 65536 (g.R.Read.remaining c.args.reader) c.in_ok-bytes.bytes.items c.in_ok-bytes.ensures long
 

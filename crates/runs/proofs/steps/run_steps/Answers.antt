@@ -6,10 +6,10 @@ use Rattle.machine.specs.declared.Answered.{Answered}
 use Rattle.runs.proofs.Running.{run_batch, run_none, run_end}
 use Rattle.runs.proofs.steps.run_steps.Goals as goal
 
-pub returns-then-count-eq0 : goal.returns-then-count-eq0
-returns-then-count-eq0 c =
-    run_none c.loop-i.invariant c.requires.0 c.reach-l.result.next c.if-count-eq0.true c.reach-l.ensures.stand
-    (c.reach-l.ensures.ends (omega (arith, c.if-count-eq0.true, c.wanted.ensures.2 (omega (arith, c.loop-i-test.true)))))
+pub returns-then-ends : goal.returns-then-ends
+returns-then-ends c =
+    run_none c.loop-i.invariant c.requires.0 c.reach-l.result.next c.if-ends.true c.reach-l.ensures.stand
+    (c.reach-l.ensures.ends (omega (arith, c.if-ends.true, c.wanted.ensures.2 (omega (arith, c.loop-i-test.true)))))
 
 pub loop-i-preserved : goal.loop-i-preserved
 loop-i-preserved c =
