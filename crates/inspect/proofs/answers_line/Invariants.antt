@@ -1,5 +1,5 @@
 -- `inspect::answers_line` is safe and ends: `i` rises to 4096. Assumes nothing.
-use Rattle.std.proofs.Common.{◌-◌, ◌≡◌, ℕ, ◌+◌, ◌*◌, ◌<◌, ◌≤◌, length}
+use Rattle.std.proofs.Common.{◌-◌}
 use Rattle.inspect.proofs.answers_line.Given as goal
 
 abbrev pub invariant-loop-i : goal.invariant-loop-i

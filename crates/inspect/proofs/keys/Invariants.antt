@@ -1,5 +1,5 @@
 -- `inspect::keys` is safe and ends: `i` rises to 16. Assumes nothing.
-use Rattle.std.proofs.Common.{◌-◌, ◌≡◌, ℕ, ◌+◌, ◌*◌, ◌<◌, ◌≤◌, length}
+use Rattle.std.proofs.Common.{◌-◌}
 use Rattle.inspect.proofs.keys.Given as goal
 
 abbrev pub invariant-loop-i : goal.invariant-loop-i

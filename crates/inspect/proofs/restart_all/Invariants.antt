@@ -1,5 +1,5 @@
 -- `inspect::restart_all` is safe and ends: `p` rises to 8. Assumes nothing.
-use Rattle.std.proofs.Common.{◌-◌, ◌≡◌, ℕ, ◌+◌, ◌*◌, ◌<◌, ◌≤◌, length}
+use Rattle.std.proofs.Common.{◌-◌}
 use Rattle.inspect.proofs.restart_all.Given as goal
 
 abbrev pub invariant-loop-p : goal.invariant-loop-p

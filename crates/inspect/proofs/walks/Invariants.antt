@@ -1,5 +1,5 @@
 -- `inspect::walks` is safe and ends: `key` rises to 17. Assumes nothing.
-use Rattle.std.proofs.Common.{◌+◌, ◌-◌, ◌≡◌, ℕ, ◌*◌, ◌<◌, ◌≤◌, length}
+use Rattle.std.proofs.Common.{◌-◌}
 use Rattle.inspect.proofs.walks.Given as goal
 
 abbrev pub invariant-loop-key : goal.invariant-loop-key

@@ -1,8 +1,5 @@
 -- The loop passes the messages that stand there (Reading). Assumes nothing.
-use Rattle.std.proofs.Common.{◌-◌, ◌≤◌, length, ◌≡◌, ℕ, ◌+◌, ◌*◌, ◌<◌}
-use Rattle.activities.specs.Form.{count_of, well_formed, messages_from}
-use Rattle.activities.specs.Run.{after}
-use Rattle.activities.specs.Store.{empty_store}
+use Rattle.std.proofs.Common.{◌-◌}
 use Rattle.prep.proofs.Reading.{Tested}
 use Rattle.prep.proofs.well_formed.Given as goal
 

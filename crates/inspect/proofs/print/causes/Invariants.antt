@@ -1,5 +1,5 @@
 -- `inspect::print::causes` is safe and ends: `j` rises to 16. Assumes nothing.
-use Rattle.std.proofs.Common.{◌-◌, ◌≡◌, ℕ, ◌+◌, ◌*◌, ◌<◌, ◌≤◌, length}
+use Rattle.std.proofs.Common.{◌-◌}
 use Rattle.inspect.proofs.print.causes.Given as goal
 
 abbrev pub invariant-loop-j : goal.invariant-loop-j

@@ -1,5 +1,5 @@
 -- `inspect::views::actors` is safe and ends: `a` rises to 8. Assumes nothing.
-use Rattle.std.proofs.Common.{◌-◌, ◌<◌, ◌≡◌, ℕ, ◌+◌, ◌*◌, ◌≤◌, length}
+use Rattle.std.proofs.Common.{◌-◌}
 use Rattle.inspect.proofs.views.actors.Given as goal
 
 abbrev pub invariant-loop-a : goal.invariant-loop-a

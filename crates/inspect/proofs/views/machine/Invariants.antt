@@ -1,5 +1,5 @@
 -- `inspect::views::machine` is safe and ends: `v` rises to 32. Assumes nothing.
-use Rattle.std.proofs.Common.{◌-◌, ◌<◌, ◌≡◌, ℕ, ◌+◌, ◌*◌, ◌≤◌, length}
+use Rattle.std.proofs.Common.{◌-◌}
 use Rattle.inspect.proofs.views.machine.Given as goal
 
 abbrev pub invariant-loop-v : goal.invariant-loop-v

@@ -1,5 +1,5 @@
 -- `inspect::views::places` is safe and ends: `p` rises to 8. Assumes nothing.
-use Rattle.std.proofs.Common.{◌-◌, ◌<◌, ◌≡◌, ℕ, ◌+◌, ◌*◌, ◌≤◌, length}
+use Rattle.std.proofs.Common.{◌-◌}
 use Rattle.inspect.proofs.views.places.Given as goal
 
 abbrev pub invariant-loop-p : goal.invariant-loop-p

@@ -1,5 +1,5 @@
 -- `inspect::views::queue` is safe and ends: `i` rises to 16. Assumes nothing.
-use Rattle.std.proofs.Common.{◌-◌, ◌<◌, ◌≡◌, ℕ, ◌+◌, ◌*◌, ◌≤◌, length}
+use Rattle.std.proofs.Common.{◌-◌}
 use Rattle.inspect.proofs.views.queue.Given as goal
 
 abbrev pub invariant-loop-i : goal.invariant-loop-i

@@ -1,5 +1,5 @@
 -- The loop stays within the eight places. Assumes nothing.
-use Rattle.std.proofs.Common.{◌-◌, ◌≡◌, ℕ, ◌+◌, ◌*◌, ◌<◌, ◌≤◌, length}
+use Rattle.std.proofs.Common.{◌-◌, ◌≤◌}
 use Rattle.prep.proofs.print.additions.Given as goal
 
 abbrev pub invariant-loop-i : goal.invariant-loop-i
