@@ -1,12 +1,15 @@
--- The pair rule, old and new (document 02, K10): a model and its scaler travel together, and so must their records.
+-- The pair rule, old and new (RULES.md, The pair rule): a model and its scaler travel together, and so must their records.
 use Rattle.std.specs.Prelude.{ℕ, zero, suc, ◌+◌, ◌/◌, ◌%◌, Bool, false, ◌&&◌, ◌||◌, not, List, leb, ltb, eqb, get_or}
 use Rattle.protocol.specs.Words.{pick, bit, one, table, all_below}
 use Rattle.protocol.specs.Slots.{number, view, lasting_contents, no_contents}
-use Rattle.protocol.specs.Walk.{walk_of}
+use Rattle.protocol.specs.Walk.{walk_of, Walked}
 use Rattle.protocol.specs.declared.State.{State}
 use Rattle.protocol.specs.declared.Contents.{Contents}
-use Rattle.protocol.specs.declared.Walked.{Walked}
-use Rattle.pairing.specs.declared.Checked.{Checked}
+
+-- what a check gives: refused with a number, or 0 and whether the rule passes; where it is refused nothing passes
+pub record Checked : Type 0 where
+  pub answer : ℕ
+  pub passes : Bool
 
 -- The data word gets a meaning: high byte 1 for weights, 2 for a scaler, 3 for a forecast, low 24 bits a bundle number.
 abbrev pub kind_of : ℕ → ℕ

@@ -1,11 +1,9 @@
 -- How the bytes of a book are read: by position, where they stand.
-use Rattle.std.specs.Prelude.{ℕ, zero, suc, ◌+◌, ◌*◌, Bool, false, ◌&&◌, ◌||◌, List, [], ◌∷◌, leb, ltb, eqb, length, get_or}
+use Rattle.std.specs.Prelude.{ℕ, zero, suc, ◌+◌, ◌*◌, Bool, false, ◌&&◌, ◌||◌, List, [], ◌∷◌, leb, ltb, eqb, length, get_or, Some, None, Option}
 use Rattle.protocol.specs.Words.{pick, table}
 use Rattle.protocol.specs.declared.Setup.{Setup}
 use Rattle.protocol.specs.declared.Step.{Step}
 use Rattle.protocol.specs.declared.Step.TheVariants.{Send, Receive, PreCheck, SendRecord, Timeout, TakeRecord, TakeAck, PostCheck, TakeRepair, SendUpdate, TakeUpdate, TakeUack, Expire, Lose, Crash, Restart, Checkpoint, Duplicate}
-use Rattle.protocol.specs.declared.Read.{Read}
-use Rattle.protocol.specs.declared.Read.TheVariants.{Got, Bad}
 
 -- one byte each, but data four bytes and causes two, low first
 abbrev pub byte : List ℕ → ℕ → ℕ
@@ -57,16 +55,16 @@ step_made s kind i =
     (short_made kind (byte s i) (byte s (i + 1)) (byte s (i + 2)) (byte s (i + 3)))
 
 -- the step at a position and the place behind it; none for an unknown kind, or where the bytes end before the fields do
-abbrev pub read_kind : List ℕ → ℕ → ℕ → ℕ → Read
+abbrev pub read_kind : List ℕ → ℕ → ℕ → ℕ → Option (Step × ℕ)
 read_kind s at kind width =
-    pick (eqb width 0 || leb (length s) (at + width)) Bad (Got (step_made s kind (at + 1)) (at + 1 + width))
+    pick (eqb width 0 || leb (length s) (at + width)) None (Some (step_made s kind (at + 1), at + 1 + width))
 
-unfoldable pub read_step : List ℕ → ℕ → Read
-read_step s at = pick (leb (length s) at) Bad (read_kind s at (byte s at) (width_of (byte s at)))
+unfoldable pub read_step : List ℕ → ℕ → Option (Step × ℕ)
+read_step s at = pick (leb (length s) at) None (read_kind s at (byte s at) (width_of (byte s at)))
 
-abbrev pub on_read : {A : Type 0} → Read → A → (Step → ℕ → A) → A
-on_read Bad none some = none
-on_read (Got step next) none some = some step next
+abbrev pub on_read : {A : Type 0} → Option (Step × ℕ) → A → (Step → ℕ → A) → A
+on_read None none some = none
+on_read (Some (step, next)) none some = some step next
 
 -- n steps stand from here to the end, and nothing behind them
 unfoldable pub valid_from : List ℕ → ℕ → ℕ → Bool

@@ -1,4 +1,4 @@
--- Which machine values are broken. Each definition says what one slot must be so that no clause of document 01 breaks it;
+-- Which machine values are broken. Each definition says what one slot must be so that no clause breaks it (RULES.md, Broken values);
 -- `whole_of` asks it of every slot. Where a test reads far, it stands in a `let`, so that it waits until it is needed.
 use Rattle.std.specs.Prelude.{ℕ, ◌*◌, ◌-◌, ◌/◌, ◌%◌, Bool, ◌&&◌, ◌||◌, not, List, length, get_or, ltb, leb, eqb}
 use Rattle.protocol.specs.Words.{pick, bit, all, all_below, times}
@@ -22,7 +22,7 @@ slots_fine m =
     && eqb (length m.records) 256 && eqb (length m.acks) 256 && eqb (length m.updates) 256 && eqb (length m.uacks) 256
     && eqb (length m.contents) 256 && eqb (length m.links) 128
 
--- a number is outside what is said above
+-- more than sixteen interactions are made
 abbrev pub made_fine : ℕ → Bool
 made_fine made = leb made 16
 

@@ -1,10 +1,14 @@
 -- A chain: the interactions that a walk meets, in walk order, each with its sender and its causes.
 use Rattle.std.specs.Prelude.{ℕ, List, map, take}
 use Rattle.protocol.specs.Slots.{number, view}
-use Rattle.protocol.specs.Walk.{walk_of}
+use Rattle.protocol.specs.Walk.{Walked, walk_of}
 use Rattle.protocol.specs.declared.State.{State}
-use Rattle.protocol.specs.declared.Walked.{Walked}
-use Rattle.protocol.specs.declared.Interaction.{Interaction}
+
+-- an interaction as its sender record states it: its key, who sent it, and its causes, bit k for interaction k
+pub record Interaction : Type 0 where
+  pub key : ℕ
+  pub sender : ℕ
+  pub causes : ℕ
 
 -- an interaction as its sender record states it. (Whatever store the walk finds that record in holds the same: a machine
 -- in which one doesn't is broken.)

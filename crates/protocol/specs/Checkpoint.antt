@@ -1,4 +1,4 @@
--- Step 17, checkpoint (document 02, K4): store.
+-- Step 17, checkpoint: store.
 use Rattle.std.specs.Prelude.{ℕ, not, List}
 use Rattle.protocol.specs.Words.{pick, bit}
 use Rattle.protocol.specs.Slots.{is_up, shelf}
@@ -8,7 +8,7 @@ use Rattle.protocol.specs.Sweep.{on_places, swept}
 use Rattle.protocol.specs.declared.State.{State}
 use Rattle.protocol.specs.Rule.{refused, taken, outside, more}
 
--- step 17 gives 2 and 5 as a crash does
+-- Store up; refused as a crash is.
 unfoldable pub checkpoint_no : State → ℕ → ℕ
 checkpoint_no m p = refused 2 (outside p m.stores) (refused 5 (not (is_up m p)) taken)
 
@@ -16,7 +16,7 @@ checkpoint_no m p = refused 2 (outside p m.stores) (refused 5 (not (is_up m p)) 
 abbrev pub sent_owed : ℕ → ℕ → List ℕ → List ℕ
 sent_owed owed p l = on_places 32 p (λ v n. pick (bit owed v) (more n) n) 0 l
 
--- makes the working state the checkpointed one and sends one copy for each owed note, which clears it
+-- The working state becomes the checkpointed one, and one copy goes off for each owed note, which clears it.
 unfoldable pub checkpointed : State → ℕ → State
 checkpointed m p =
     swept

@@ -11,6 +11,6 @@ use Rattle.protocol.specs.Rule.{refused, taken, outside}
 unfoldable pub crash_no : State → ℕ → ℕ
 crash_no m p = refused 2 (outside p m.stores) (refused 5 (not (is_up m p)) taken)
 
--- .. becomes down. Document 02, K4: a crash throws back to the checkpoint and drops the notes.
+-- .. becomes down. A crash throws back to the checkpoint and drops the notes.
 unfoldable pub crashed : State → ℕ → State
 crashed m p = swept (with_shelf m p (thrown_back (shelf m p))) p

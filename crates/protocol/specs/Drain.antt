@@ -1,5 +1,6 @@
 -- The drain: steps one after another, each the first that applies, until none does.
-use Rattle.std.specs.Prelude.{ℕ, zero, suc, ◌*◌, ◌/◌, ◌%◌, Bool, ◌&&◌, ◌||◌, not, List, [], ◌∷◌, ltb, leb, eqb, length, get_or}
+use Rattle.std.specs.List.{range_with_len}
+use Rattle.std.specs.Prelude.{find, unwrap_or, ℕ, zero, suc, ◌*◌, ◌/◌, ◌%◌, Bool, ◌&&◌, ◌||◌, not, List, [], ◌∷◌, ltb, leb, eqb, length, get_or, Some, None, Option}
 use Rattle.protocol.specs.Words.{pick, bit, all}
 use Rattle.protocol.specs.Slots.{number, no_view, no_queue, no_repair, no_entry, status_number, list, entry, record_copies, ack_copies, update_copies, uack_copies, owes_ack, owes_uack}
 use Rattle.protocol.specs.Broken.{broken_of}
@@ -13,14 +14,10 @@ use Rattle.protocol.specs.Rule.{head, head_view}
 use Rattle.protocol.specs.Step.{step_of}
 use Rattle.protocol.specs.declared.Step.{Step}
 use Rattle.protocol.specs.declared.Step.TheVariants.{Receive, PreCheck, SendRecord, Timeout, TakeRecord, TakeAck, PostCheck, TakeRepair, SendUpdate, TakeUpdate, TakeUack, Expire, Checkpoint}
-use Rattle.protocol.specs.declared.Turn.{Turn}
-use Rattle.protocol.specs.declared.Turn.TheVariants.{Take, Rest}
-use Rattle.protocol.specs.declared.Drained.{Drained}
 
 -- the lowest number below n of which p holds, n where there is none
 unfoldable pub lowest : ℕ → (ℕ → Bool) → ℕ
-lowest zero p = 0
-lowest (suc n) p = pick (eqb (lowest n p) n) (pick (p n) n (suc n)) (lowest n p)
+lowest n p = unwrap_or (find p (range_with_len 0 n)) n
 
 -- a view's key and role
 abbrev pub key_of : ℕ → ℕ
@@ -43,7 +40,7 @@ busy_in queues a = not (eqb (get_or queues a no_queue).len 0)
 abbrev pub busy : State → ℕ
 busy m = lowest m.actors (busy_in m.queues)
 
--- phase 3: take an ack from the current store if one is in flight, else step 17 for that store if it owes one (document 02, K4),
+-- phase 3: take an ack from the current store if one is in flight, else step 17 for that store if it owes one,
 -- else that store takes a record copy if one is in flight, else timeout to the lowest other store in the list
 abbrev pub other_in : ℕ → ℕ → ℕ → Bool
 other_in listed current p = bit listed p && not (eqb current p)
@@ -77,8 +74,8 @@ repair_in repairs v = (get_or repairs v no_repair).flying
 abbrev pub repair_due : State → ℕ
 repair_due m = lowest (m.made * 2) (repair_in m.repairs)
 
--- (d) lowest key, role 0 first, to-send: step 10; waiting: uack from the destination, else step 17 for it if it owes one
--- (document 02, K4), else update there, else step 13
+-- (d) lowest key, role 0 first, to-send: step 10; waiting: uack from the destination, else step 17 for it if it owes one,
+-- else update there, else step 13
 abbrev pub is_unfinished : Entry → Bool
 is_unfinished e = eqb (status_number e.status) 1 || eqb (status_number e.status) 2
 
@@ -105,15 +102,15 @@ entry_step m v =
     entry_in v (entry m v) (uack_copies m p v) (owes_uack m p v) (update_copies m p v)
 
 -- each time the first that applies: (a), (b), then what the coordinator does, (c) and (d)
-abbrev pub coordinator_turn : State → Turn
+abbrev pub coordinator_turn : State → Option Step
 coordinator_turn m =
-    pick (ltb (repair_due m) (m.made * 2)) (Take (TakeRepair (key_of (repair_due m)) (role_of (repair_due m))))
-    (pick (ltb (entry_due m) (m.made * 2)) (Take (entry_step m (entry_due m))) Rest)
+    pick (ltb (repair_due m) (m.made * 2)) (Some (TakeRepair (key_of (repair_due m)) (role_of (repair_due m))))
+    (pick (ltb (entry_due m) (m.made * 2)) (Some (entry_step m (entry_due m))) None)
 
-unfoldable pub turn_of : State → Turn
+unfoldable pub turn_of : State → Option Step
 turn_of m =
-    pick (ltb (unreceived m) m.made) (Take (Receive (unreceived m)))
-    (pick (ltb (busy m) m.actors) (Take (job_step m (busy m))) (coordinator_turn m))
+    pick (ltb (unreceived m) m.made) (Some (Receive (unreceived m)))
+    (pick (ltb (busy m) m.actors) (Some (job_step m (busy m))) (coordinator_turn m))
 
 -- the steps that the drain takes, at most n of them, and the machine after them
 pub record Course : Type 0 where
@@ -126,9 +123,9 @@ stays m = record { state = m; steps = [] }
 abbrev pub after : Step → Course → Course
 after step c = record { state = c.state; steps = step ∷ c.steps }
 
-abbrev pub on_turn : {A : Type 0} → Turn → A → (Step → A) → A
-on_turn Rest none some = none
-on_turn (Take step) none some = some step
+abbrev pub on_turn : {A : Type 0} → Option Step → A → (Step → A) → A
+on_turn None none some = none
+on_turn (Some step) none some = some step
 
 unfoldable pub course : ℕ → State → Course
 course zero m = stays m
@@ -141,11 +138,17 @@ up_in stores p s = leb stores p || s.up
 abbrev pub all_up : State → Bool
 all_up m = all (up_in m.stores) m.shelves
 
+-- what a drain gives: the machine after it, its number, and how many steps it took
+pub record Drained : Type 0 where
+  pub state : State
+  pub answer : ℕ
+  pub count : ℕ
+
 -- its result carries the count
 abbrev pub drained : Course → Drained
 drained c = record { state = c.state; answer = 0; count = length c.steps }
 
--- until none of these applies, and stops at 22 steps for each interaction in any case
+-- until none of these applies; it stops at 22 steps for each interaction in any case
 unfoldable pub drain_of : State → Drained
 drain_of m =
     pick (broken_of m) (record { state = m; answer = 1; count = 0 })

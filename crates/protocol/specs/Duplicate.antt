@@ -1,4 +1,4 @@
--- Step 18, duplicate (document 02, K8): what (0 record, 1 ack, 2 update, 3 uack), store, key, role.
+-- Step 18, duplicate: what (0 record, 1 ack, 2 update, 3 uack), store, key, role.
 use Rattle.std.specs.Prelude.{ℕ}
 use Rattle.protocol.specs.Slots.{number}
 use Rattle.protocol.specs.Lose.{copies, with_copies, lose_no}

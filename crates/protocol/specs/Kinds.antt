@@ -4,7 +4,7 @@ use Rattle.protocol.specs.Words.{pick}
 use Rattle.protocol.specs.declared.Step.{Step}
 use Rattle.protocol.specs.declared.Step.TheVariants.{Send, Receive, PreCheck, SendRecord, Timeout, TakeRecord, TakeAck, PostCheck, TakeRepair, SendUpdate, TakeUpdate, TakeUack, Expire, Lose, Crash, Restart, Checkpoint, Duplicate}
 
--- document 01's number of the kind, then its fields in their order
+-- the kind's number, 1 to 18, then its fields in their order
 abbrev pub numbers : Step → List ℕ
 numbers (Send from to own word causes) = 1 ∷ from ∷ to ∷ own ∷ word ∷ causes ∷ []
 numbers (Receive k) = 2 ∷ k ∷ []

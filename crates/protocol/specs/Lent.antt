@@ -2,6 +2,11 @@
 use Rattle.std.specs.Prelude.{ℕ, List, ◌++◌, ltb, eqb, length, drop}
 use Rattle.protocol.specs.Words.{pick}
 
+-- what writing into a lent buffer gives: its number and the count of bytes, 0 where it is refused
+pub record Written : Type 0 where
+  pub answer : ℕ
+  pub len : ℕ
+
 -- one refusal before another
 abbrev pub first : ℕ → ℕ → ℕ
 first n next = pick (eqb n 0) next n

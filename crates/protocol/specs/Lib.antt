@@ -6,6 +6,7 @@ pub mod Stores
 pub mod Slots
 pub mod Writes
 pub mod Setup
+pub mod Refusal
 pub mod Broken
 pub mod Closed
 pub mod Rule

@@ -1,4 +1,4 @@
--- What document 01's program prints, byte by byte: 10 a line feed, 32 a space, 45 `-`, 48 to 57 the digits.
+-- What the recorder prints (RULES.md, Listing), byte by byte: 10 a line feed, 32 a space, 45 `-`, 48 to 57 the digits.
 use Rattle.std.specs.Prelude.{ℕ, zero, suc, ◌+◌, ◌*◌, ◌-◌, ◌/◌, ◌%◌, List, [], ◌∷◌, ◌++◌, ltb, leb, eqb}
 use Rattle.protocol.specs.Words.{pick}
 use Rattle.protocol.specs.Slots.{view, lasting_viewlink}

@@ -1,4 +1,4 @@
--- The numbers that document 01 has for the cases of an enum.
+-- The numbers of a status's cases.
 use Rattle.std.specs.Prelude.{ℕ}
 use Rattle.protocol.specs.declared.Status.{Status}
 use Rattle.protocol.specs.declared.Status.TheVariants.{Nothing, ToSend, Waiting, Done}

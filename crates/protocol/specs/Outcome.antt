@@ -1,4 +1,4 @@
--- What a call hands back: the state, and document 01's number, 0 taken, or the refusal.
+-- What a call hands back: the state, and a number, 0 for taken or the refusal's.
 use Rattle.std.specs.Prelude.{ℕ}
 use Rattle.protocol.specs.declared.State.{State}
 

@@ -1,15 +1,13 @@
--- Document 02, K2: the chain of a walk as a PROV-N document, and what the call that writes it gives.
+-- The chain of a walk as a PROV-N document (RULES.md, PROV-N), and what the call that writes it gives.
 use Rattle.std.specs.Prelude.{ℕ, zero, suc, ◌+◌, Bool, true, false, List, [], ◌∷◌, ◌++◌, length, get_or, set, replicate}
 use Prim.Native.Char.{code}
 use Prim.Native.String.{String, [] as empty, ◌∷◌ as ◌before◌}
 use Rattle.protocol.specs.Words.{pick, bit}
 use Rattle.protocol.specs.Listing.{decimal}
 use Rattle.protocol.specs.Walk.{walk_of}
-use Rattle.protocol.specs.Chain.{chain_of}
-use Rattle.protocol.specs.Lent.{first, lent, short_no, over}
+use Rattle.protocol.specs.Chain.{chain_of, Interaction}
+use Rattle.protocol.specs.Lent.{first, lent, short_no, over, Written}
 use Rattle.protocol.specs.declared.State.{State}
-use Rattle.protocol.specs.declared.Interaction.{Interaction}
-use Rattle.protocol.specs.declared.Written.{Written}
 
 abbrev pub bytes : String → List ℕ
 bytes empty = []

@@ -7,7 +7,13 @@ use Rattle.protocol.specs.declared.Setup.{Setup}
 use Rattle.protocol.specs.declared.Step.{Step}
 unfoldable pub use Rattle.protocol.specs.Steps.{ran, answers}
 use Rattle.protocol.specs.Book.{well_formed, setup_read, steps_from, count_of, start_of}
-use Rattle.protocol.specs.declared.Ran.{Ran}
+
+-- what a run of a book gives: the machine after it, its number, how many steps the book has and how many were taken
+pub record Ran : Type 0 where
+  pub state : State
+  pub answer : ℕ
+  pub steps : ℕ
+  pub taken : ℕ
 
 -- the steps of a book, and the fresh machine of its setup
 abbrev pub steps_read : List ℕ → List Step

@@ -28,7 +28,7 @@ written_links r held w l = pick (held || not (eqb r 0)) l (record { to = w.links
 abbrev pub written_viewlink : ℕ → View → ℕ
 written_viewlink l w = pick (eqb l 0) (w.viewlink + 1) l
 
--- Document 02, K4: the working state changes, and an ack is owed for that store, key and role.
+-- Only the working state changes, and an ack is owed for that store, key and role (RULES.md, Checkpoints).
 abbrev pub taken_in : Store → ℕ → View → Store
 taken_in s v w = owing_ack (relinked_at (holding s v) v (written_viewlink (get_or s.viewlinks v 0) w)) v
 

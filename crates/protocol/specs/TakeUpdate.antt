@@ -13,8 +13,8 @@ take_update_no m p k r =
     refused 2 (outside p m.stores || outside k m.made || outside r 2)
     (refused 5 (not (is_up m p)) (refused 7 (eqb (update_copies m p (number k r)) 0) taken))
 
--- The viewlink of the opposite view there becomes the entry's own store, always. Document 02, K4: that is the working state's,
--- and a uack is owed for that store, key and role.
+-- The viewlink of the opposite view there becomes the entry's own store, always. Only the working state changes, and a uack is
+-- owed for that store, key and role (RULES.md, Checkpoints).
 abbrev pub updated_in : Store → (v opposite own : ℕ) → Store
 updated_in s v o own = owing_uack (relinked_at s o (own + 1)) v
 

@@ -1,12 +1,26 @@
 -- The walk back from a key, over what the stores hold and what is closed.
-use Rattle.std.specs.Prelude.{ℕ, zero, suc, ◌+◌, ◌-◌, Bool, true, false, ◌&&◌, not, leb, eqb, get_or, set, replicate}
+use Rattle.std.specs.Prelude.{ℕ, zero, suc, ◌+◌, ◌-◌, Bool, true, false, List, ◌&&◌, not, leb, eqb, get_or, set, replicate}
 use Rattle.protocol.specs.Words.{pick, bit}
 use Rattle.protocol.specs.Slots.{number, view, is_lasting, lasting_contents, lasting_cause_links, lasting_viewlink}
 use Rattle.protocol.specs.Closed.{closed_of}
 use Rattle.protocol.specs.Broken.{broken_of}
 use Rattle.protocol.specs.declared.State.{State}
-use Rattle.protocol.specs.declared.Met.{Met}
-use Rattle.protocol.specs.declared.Walked.{Walked}
+
+-- The keys met so far, in the order first met, and how many store entries were looked up; fine until one isn't closed or an
+-- entry or link is missing.
+pub record Met : Type 0 where
+  pub fine : Bool
+  pub met : List Bool
+  pub keys : List ℕ
+  pub count : ℕ
+  pub lookups : ℕ
+
+-- what a walk answers: no keys and no lookups where it is refused
+pub record Walked : Type 0 where
+  pub answer : ℕ
+  pub keys : List ℕ
+  pub count : ℕ
+  pub lookups : ℕ
 
 -- a key is answered once, in the order first met
 abbrev pub added : Met → ℕ → Met
@@ -16,7 +30,7 @@ added w k =
 abbrev pub spoiled : Met → Met
 spoiled w = record { fine = false; met = w.met; keys = w.keys; count = w.count; lookups = w.lookups }
 
--- document 02, K6: the number of store entries looked up
+-- the number of store entries looked up (RULES.md, Lookups)
 abbrev pub looked_up : Met → Met
 looked_up w = record { fine = w.fine; met = w.met; keys = w.keys; count = w.count; lookups = w.lookups + 1 }
 

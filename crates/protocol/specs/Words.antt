@@ -1,5 +1,6 @@
 -- Words that the definitions share: a choice, a bit of a set, a test of every place of a list, a list made place by place.
 use Rattle.std.specs.Prelude.{ℕ, zero, suc, ◌+◌, ◌/◌, ◌%◌, ◌^◌, Bool, true, false, ◌&&◌, List, [], ◌∷◌, ◌++◌, eqb}
+use Rattle.std.specs.List.{list_all, enumerate_from}
 use Rattle.std.specs.Int.Bits.{bit_or}
 
 abbrev pub pick {ℓ} : {A : Type ℓ} → Bool → A → A → A
@@ -21,8 +22,7 @@ one false = 0
 
 -- p holds of i and the first element of l, of i + 1 and the second, and so on
 unfoldable pub all_from : {A : Type 0} → (ℕ → A → Bool) → ℕ → List A → Bool
-all_from p i [] = true
-all_from p i (x ∷ xs) = p i x && all_from p (suc i) xs
+all_from p i l = list_all (λ q. p q.0 q.1) (enumerate_from i l)
 
 abbrev pub all : {A : Type 0} → (ℕ → A → Bool) → List A → Bool
 all p l = all_from p 0 l

@@ -12,290 +12,43 @@ use Rattle.protocol.specs.declared.Entry.{Entry}
 use Rattle.protocol.specs.declared.Store.{Store}
 
 abbrev pub with_made : State → ℕ → State
-with_made m x =
-    record {
-      stores = m.stores;
-      actors = m.actors;
-      made = x;
-      homes = m.homes;
-      lists = m.lists;
-      queues = m.queues;
-      shelves = m.shelves;
-      messages = m.messages;
-      views = m.views;
-      repairs = m.repairs;
-      entries = m.entries;
-      records = m.records;
-      acks = m.acks;
-      updates = m.updates;
-      uacks = m.uacks;
-      contents = m.contents;
-      links = m.links;
-    }
+with_made m x = record m { made = x }
 
 abbrev pub with_queues : State → List Queue → State
-with_queues m x =
-    record {
-      stores = m.stores;
-      actors = m.actors;
-      made = m.made;
-      homes = m.homes;
-      lists = m.lists;
-      queues = x;
-      shelves = m.shelves;
-      messages = m.messages;
-      views = m.views;
-      repairs = m.repairs;
-      entries = m.entries;
-      records = m.records;
-      acks = m.acks;
-      updates = m.updates;
-      uacks = m.uacks;
-      contents = m.contents;
-      links = m.links;
-    }
+with_queues m x = record m { queues = x }
 
 abbrev pub with_shelves : State → List Store → State
-with_shelves m x =
-    record {
-      stores = m.stores;
-      actors = m.actors;
-      made = m.made;
-      homes = m.homes;
-      lists = m.lists;
-      queues = m.queues;
-      shelves = x;
-      messages = m.messages;
-      views = m.views;
-      repairs = m.repairs;
-      entries = m.entries;
-      records = m.records;
-      acks = m.acks;
-      updates = m.updates;
-      uacks = m.uacks;
-      contents = m.contents;
-      links = m.links;
-    }
+with_shelves m x = record m { shelves = x }
 
 abbrev pub with_messages : State → List Message → State
-with_messages m x =
-    record {
-      stores = m.stores;
-      actors = m.actors;
-      made = m.made;
-      homes = m.homes;
-      lists = m.lists;
-      queues = m.queues;
-      shelves = m.shelves;
-      messages = x;
-      views = m.views;
-      repairs = m.repairs;
-      entries = m.entries;
-      records = m.records;
-      acks = m.acks;
-      updates = m.updates;
-      uacks = m.uacks;
-      contents = m.contents;
-      links = m.links;
-    }
+with_messages m x = record m { messages = x }
 
 abbrev pub with_views : State → List View → State
-with_views m x =
-    record {
-      stores = m.stores;
-      actors = m.actors;
-      made = m.made;
-      homes = m.homes;
-      lists = m.lists;
-      queues = m.queues;
-      shelves = m.shelves;
-      messages = m.messages;
-      views = x;
-      repairs = m.repairs;
-      entries = m.entries;
-      records = m.records;
-      acks = m.acks;
-      updates = m.updates;
-      uacks = m.uacks;
-      contents = m.contents;
-      links = m.links;
-    }
+with_views m x = record m { views = x }
 
 abbrev pub with_repairs : State → List Repair → State
-with_repairs m x =
-    record {
-      stores = m.stores;
-      actors = m.actors;
-      made = m.made;
-      homes = m.homes;
-      lists = m.lists;
-      queues = m.queues;
-      shelves = m.shelves;
-      messages = m.messages;
-      views = m.views;
-      repairs = x;
-      entries = m.entries;
-      records = m.records;
-      acks = m.acks;
-      updates = m.updates;
-      uacks = m.uacks;
-      contents = m.contents;
-      links = m.links;
-    }
+with_repairs m x = record m { repairs = x }
 
 abbrev pub with_entries : State → List Entry → State
-with_entries m x =
-    record {
-      stores = m.stores;
-      actors = m.actors;
-      made = m.made;
-      homes = m.homes;
-      lists = m.lists;
-      queues = m.queues;
-      shelves = m.shelves;
-      messages = m.messages;
-      views = m.views;
-      repairs = m.repairs;
-      entries = x;
-      records = m.records;
-      acks = m.acks;
-      updates = m.updates;
-      uacks = m.uacks;
-      contents = m.contents;
-      links = m.links;
-    }
+with_entries m x = record m { entries = x }
 
 abbrev pub with_records : State → List ℕ → State
-with_records m x =
-    record {
-      stores = m.stores;
-      actors = m.actors;
-      made = m.made;
-      homes = m.homes;
-      lists = m.lists;
-      queues = m.queues;
-      shelves = m.shelves;
-      messages = m.messages;
-      views = m.views;
-      repairs = m.repairs;
-      entries = m.entries;
-      records = x;
-      acks = m.acks;
-      updates = m.updates;
-      uacks = m.uacks;
-      contents = m.contents;
-      links = m.links;
-    }
+with_records m x = record m { records = x }
 
 abbrev pub with_acks : State → List ℕ → State
-with_acks m x =
-    record {
-      stores = m.stores;
-      actors = m.actors;
-      made = m.made;
-      homes = m.homes;
-      lists = m.lists;
-      queues = m.queues;
-      shelves = m.shelves;
-      messages = m.messages;
-      views = m.views;
-      repairs = m.repairs;
-      entries = m.entries;
-      records = m.records;
-      acks = x;
-      updates = m.updates;
-      uacks = m.uacks;
-      contents = m.contents;
-      links = m.links;
-    }
+with_acks m x = record m { acks = x }
 
 abbrev pub with_updates : State → List ℕ → State
-with_updates m x =
-    record {
-      stores = m.stores;
-      actors = m.actors;
-      made = m.made;
-      homes = m.homes;
-      lists = m.lists;
-      queues = m.queues;
-      shelves = m.shelves;
-      messages = m.messages;
-      views = m.views;
-      repairs = m.repairs;
-      entries = m.entries;
-      records = m.records;
-      acks = m.acks;
-      updates = x;
-      uacks = m.uacks;
-      contents = m.contents;
-      links = m.links;
-    }
+with_updates m x = record m { updates = x }
 
 abbrev pub with_uacks : State → List ℕ → State
-with_uacks m x =
-    record {
-      stores = m.stores;
-      actors = m.actors;
-      made = m.made;
-      homes = m.homes;
-      lists = m.lists;
-      queues = m.queues;
-      shelves = m.shelves;
-      messages = m.messages;
-      views = m.views;
-      repairs = m.repairs;
-      entries = m.entries;
-      records = m.records;
-      acks = m.acks;
-      updates = m.updates;
-      uacks = x;
-      contents = m.contents;
-      links = m.links;
-    }
+with_uacks m x = record m { uacks = x }
 
 abbrev pub with_contents : State → List Contents → State
-with_contents m x =
-    record {
-      stores = m.stores;
-      actors = m.actors;
-      made = m.made;
-      homes = m.homes;
-      lists = m.lists;
-      queues = m.queues;
-      shelves = m.shelves;
-      messages = m.messages;
-      views = m.views;
-      repairs = m.repairs;
-      entries = m.entries;
-      records = m.records;
-      acks = m.acks;
-      updates = m.updates;
-      uacks = m.uacks;
-      contents = x;
-      links = m.links;
-    }
+with_contents m x = record m { contents = x }
 
 abbrev pub with_links : State → List Links → State
-with_links m x =
-    record {
-      stores = m.stores;
-      actors = m.actors;
-      made = m.made;
-      homes = m.homes;
-      lists = m.lists;
-      queues = m.queues;
-      shelves = m.shelves;
-      messages = m.messages;
-      views = m.views;
-      repairs = m.repairs;
-      entries = m.entries;
-      records = m.records;
-      acks = m.acks;
-      updates = m.updates;
-      uacks = m.uacks;
-      contents = m.contents;
-      links = x;
-    }
+with_links m x = record m { links = x }
 
 -- by actor
 abbrev pub with_queue : State → ℕ → Queue → State
