@@ -49,7 +49,7 @@ use Rattle.bites.proofs.Ruled.{ruled, ran_ruled, acked_ruled, whole_along, whole
 use Rattle.bites.proofs.Right.{course_ruled, steps_ruled, course_ruled_holds, ran_right, accepted_right, acknowledged_right, after_ruled, steps_ruled_holds}
 use Rattle.bites.proofs.Witnesses.{legal_M}
 
--- by document 01's rules
+-- by the rules themselves
 at_most_one_right : AtMostOneBy right
 at_most_one_right u l steps v = rw (acknowledged_right (fresh_of u) steps v) (one_acknowledgement.at_most_one u l steps v)
 

@@ -1,4 +1,5 @@
--- By document 01's rules the runs are those that the guarantees speak of, and never meet a broken machine. Assumes nothing.
+-- By the rules themselves the runs are those that the guarantees speak of, and never meet a broken machine. Assumes nothing.
+use Rattle.std.specs.Prelude.{Some, None, Option}
 use Prim.Native.Nat.{ℕ, zero, suc, ◌*◌}
 use mathlib.Core.Path.{◌≡◌, refl, sym, ap, ◌∙◌, subst}
 use mathlib.Core.Bool.{Bool, true, false, ◌&&◌, not}
@@ -12,8 +13,6 @@ use Rattle.protocol.specs.Step.{rule_of, step_of}
 use Rattle.protocol.specs.declared.Step.{Step}
 use Rattle.protocol.specs.Run.{ran, fresh_of}
 use Rattle.protocol.specs.Drain.{turn_of, Course, stays, after as behind, on_turn, course}
-use Rattle.protocol.specs.declared.Turn.{Turn}
-use Rattle.protocol.specs.declared.Turn.TheVariants.{Take, Rest}
 use Rattle.keeps.proofs.Keeps.{step_keeps}
 use Rattle.drains.specs.Drains.{steps_of}
 use Rattle.guarantees.specs.Acknowledged.{Legal, after, accepted_into, accepted, acknowledged}
@@ -66,10 +65,10 @@ unfolding course course_ruled
 course_ruled_holds zero m e = refl
 course_ruled_holds (suc n) m e = go (turn_of m) (λ s. course_ruled_holds n (ruled right m s) (unbroken_ruled m s e))
   where
-    go : (t : Turn) → ((s : Step) → course n (ruled right m s) ≡ course_ruled n (ruled right m s))
+    go : (t : Option Step) → ((s : Step) → course n (ruled right m s) ≡ course_ruled n (ruled right m s))
         → on_turn t (stays m) (λ s. behind s (course n (step_of m s).state)) ≡ on_turn t (stays m) (λ s. behind s (course_ruled n (ruled right m s)))
-    go Rest h = refl
-    go (Take s) h = ap (λ (x : State). behind s (course n x)) (next_ruled m s e) ∙ ap (behind s) (h s)
+    go None h = refl
+    go (Some s) h = ap (λ (x : State). behind s (course n x)) (next_ruled m s e) ∙ ap (behind s) (h s)
 
 abbrev pub steps_ruled : State → List Step
 steps_ruled m = (course_ruled (m.made * 22) m).steps

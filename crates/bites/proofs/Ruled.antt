@@ -4,12 +4,12 @@ use Prim.Native.Nat.{ℕ}
 use mathlib.Core.Path.{◌≡◌, refl, ap, ◌∙◌}
 use mathlib.Core.Bool.{Bool, true, false, ◌&&◌, not}
 use mathlib.Core.List.{List, [], ◌∷◌, ◌++◌}
+use Rattle.std.proofs.lemmas.Bool.{and_from, and_parts}
 use Rattle.protocol.specs.Words.{pick}
 use Rattle.protocol.specs.Setup.{answered}
 use Rattle.protocol.specs.Broken.{broken_of}
 use Rattle.protocol.specs.declared.State.{State}
 use borrow.Author.Tests.{not-true}
-use Rattle.unbroken.proofs.Laws.Tests.{and_left, and_right, and_both}
 use Rattle.protocol.specs.Rule.{decided}
 use Rattle.protocol.specs.Step.{number_of}
 use Rattle.protocol.specs.declared.Step.{Step}
@@ -43,12 +43,12 @@ module _ (rules : Rules) where
   unfolding whole_along ran_ruled
   whole_split m [] further e = (refl, e)
   whole_split m (s ∷ ss) further e =
-      let h = whole_split (ruled rules m s) ss further (and_right (not (broken_of m)) (whole_along rules (ruled rules m s) (ss ++ further)) e) in
-      (and_both (not (broken_of m)) (whole_along rules (ruled rules m s) ss) (and_left (not (broken_of m)) (whole_along rules (ruled rules m s) (ss ++ further)) e) h.0, h.1)
+      let h = whole_split (ruled rules m s) ss further (and_parts (not (broken_of m)) (whole_along rules (ruled rules m s) (ss ++ further)) e).1 in
+      (and_from (not (broken_of m)) (whole_along rules (ruled rules m s) ss) (and_parts (not (broken_of m)) (whole_along rules (ruled rules m s) (ss ++ further)) e).0 h.0, h.1)
 
   pub whole_first : (m : State) (s : Step) (ss : List Step) → whole_along rules m (s ∷ ss) ≡ true → broken_of m ≡ false
   unfolding whole_along
-  whole_first m s ss e = not-true (broken_of m) (and_left (not (broken_of m)) (whole_along rules (ruled rules m s) ss) e)
+  whole_first m s ss e = not-true (broken_of m) (and_parts (not (broken_of m)) (whole_along rules (ruled rules m s) ss) e).0
 
   pub ran_ruled_holds : (m : State) (steps : List Step) → whole_along rules m steps ≡ true → ran_by rules m steps ≡ ran_ruled rules m steps
   unfolding ran_by ran_ruled whole_along
@@ -56,7 +56,7 @@ module _ (rules : Rules) where
   ran_ruled_holds m (s ∷ ss) e =
       let h = whole_first m s ss e in
       ap (λ (n : State). ran_by rules n ss) (step_ruled rules m s h)
-      ∙ ran_ruled_holds (ruled rules m s) ss (and_right (not (broken_of m)) (whole_along rules (ruled rules m s) ss) e)
+      ∙ ran_ruled_holds (ruled rules m s) ss (and_parts (not (broken_of m)) (whole_along rules (ruled rules m s) ss) e).1
 
   pub acked_ruled_holds : (m : State) (steps : List Step) (v : ℕ) → whole_along rules m steps ≡ true → acknowledged_by rules m steps v ≡ acked_ruled rules m steps v
   unfolding acknowledged_by acked_ruled whole_along
@@ -64,4 +64,4 @@ module _ (rules : Rules) where
   acked_ruled_holds m (s ∷ ss) v e =
       let h = whole_first m s ss e in
       ap (λ (n : State). accepted_into m n s v ++ acknowledged_by rules n ss v) (step_ruled rules m s h)
-      ∙ ap (λ (l : List ℕ). accepted_into m (ruled rules m s) s v ++ l) (acked_ruled_holds (ruled rules m s) ss v (and_right (not (broken_of m)) (whole_along rules (ruled rules m s) ss) e))
+      ∙ ap (λ (l : List ℕ). accepted_into m (ruled rules m s) s v ++ l) (acked_ruled_holds (ruled rules m s) ss v (and_parts (not (broken_of m)) (whole_along rules (ruled rules m s) ss) e).1)

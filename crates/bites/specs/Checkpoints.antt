@@ -1,5 +1,5 @@
--- What document 02, K4 says of stores bites: a crash, a step 6, a checkpoint and a walk that are wrong about the two states of a store,
--- each with a machine on which a law fails by it.
+-- What RULES.md, Checkpoints says of stores bites: a crash, a step 6, a checkpoint and a walk that are wrong about the two states of
+-- a store, each with a machine on which a law fails by it.
 use Rattle.std.specs.Prelude.{ℕ, zero, suc, ◌≡◌, false, List, [], ◌∷◌, ◌++◌, replicate}
 use Rattle.protocol.specs.Slots.{number, shelf, ack_copies}
 use Rattle.protocol.specs.Stores.{reworked}
@@ -8,7 +8,7 @@ use Rattle.protocol.specs.Sweep.{swept}
 use Rattle.protocol.specs.Broken.{broken_of}
 use Rattle.protocol.specs.declared.State.{State}
 use Rattle.protocol.specs.declared.Store.{Store}
-use Rattle.protocol.specs.declared.Walked.{Walked}
+use Rattle.protocol.specs.Walk.{Walked, walk_of}
 use Rattle.protocol.specs.Rule.{more}
 use Rattle.protocol.specs.TakeRecord.{record_taken}
 use Rattle.protocol.specs.Checkpoint.{checkpointed}
@@ -16,7 +16,6 @@ use Rattle.protocol.specs.Step.{after_of}
 use Rattle.protocol.specs.Kinds.{on_take_record, on_crash, on_checkpoint}
 use Rattle.protocol.specs.declared.Step.{Step}
 use Rattle.protocol.specs.declared.Step.TheVariants.{Receive, TakeAck, Crash, Checkpoint}
-use Rattle.protocol.specs.Walk.{walk_of}
 use Rattle.unbroken.specs.Lowest.{IsLowest}
 use Rattle.reaches.specs.Applies.{Applies}
 use Rattle.guarantees.specs.Acknowledged.{after}
@@ -61,9 +60,8 @@ forgetting m s = on_checkpoint s (forgotten m) (after_of m s)
 abbrev pub settled : List Step
 settled = S ∷ Receive 0 ∷ sends 0 ++ settles 0 0 0 0 ++ sends 1 ++ settles 1 0 1 1
 
--- 4. A walk that reads the working state: it answers as if every store had just made a checkpoint. No run shows the difference, since
--- where an interaction is closed both states of a store have the same of it. So this is refuted on a value that isn't broken and that
--- no run reaches: store 0 has the record of a closed interaction in its working state alone.
+-- 4. A walk that reads the working state: it answers as if every store had just made a checkpoint. This is refuted on a value that
+-- isn't broken and that no run reaches: store 0 acknowledged the record of a closed interaction and has it in its working state alone.
 unfoldable pub checkpointed_below : ℕ → State → State
 checkpointed_below zero m = m
 checkpointed_below (suc p) m = checkpointed (checkpointed_below p m) p
@@ -89,7 +87,7 @@ pub record BreaksRefusals (walk : State → ℕ → Walked) (m : State) : Type 0
   pub refuted : ¬ RefusalsBy walk
 
 pub record BitesCheckpoints : Type 0 where
-  -- of document 01's walk it holds (of the rules, 2 and 5 are the guarantees, and hold)
+  -- of `walk_of` it holds (of the rules themselves, 2 and 5 are the guarantees, and hold)
   pub refusals : RefusalsBy walk_of
   -- by each wrong one its law fails
   pub still_owing : BreaksKeptForEver owing_on owed_of_nothing (TakeAck 0 0 0) []

@@ -1,4 +1,4 @@
--- What document 02, K8 says of networks that repeat, bites: runs in which a record, an ack, an update and a uack come twice at the worst
+-- What RULES.md, Repeats says of networks that repeat, bites: runs in which a record, an ack, an update and a uack come twice at the worst
 -- moment, on which the premises of the guarantees hold; and a rule that is wrong about a repeated uack, with a run on which one fails.
 use Rattle.std.specs.Prelude.{ℕ, ◌≡◌, List, [], ◌∷◌, ◌++◌, leb}
 use Rattle.protocol.specs.Words.{pick}

@@ -10,9 +10,8 @@ use Rattle.protocol.specs.Closed.{closed_of}
 use Rattle.protocol.specs.declared.State.{State}
 use Rattle.protocol.specs.declared.Entry.{Entry}
 use Rattle.protocol.specs.declared.Status.TheVariants.{ToSend}
-use Rattle.protocol.specs.declared.Drained.{Drained}
-use Rattle.protocol.specs.declared.Met.{Met}
-use Rattle.protocol.specs.declared.Walked.{Walked}
+use Rattle.protocol.specs.Drain.{Drained, all_up, course, drained, drain_of}
+use Rattle.protocol.specs.Walk.{Met, Walked, added, spoiled, looked_up, causes_held, each, to_cause, visit_of, unmet, refused_walk, answer_of}
 use Rattle.protocol.specs.Views.{phased}
 use Rattle.protocol.specs.TakeAck.{acked_view, ack_taken}
 use Rattle.protocol.specs.SendUpdate.{in_status}
@@ -22,8 +21,6 @@ use Rattle.protocol.specs.Kinds.{on_take_ack, on_crash, on_restart}
 use Rattle.protocol.specs.declared.Step.{Step}
 use Rattle.protocol.specs.declared.Step.TheVariants.{Send, Receive, SendRecord, Timeout, TakeAck, PostCheck, Crash, Restart}
 use Rattle.protocol.specs.Run.{fresh_of}
-use Rattle.protocol.specs.Drain.{all_up, course, drained, drain_of}
-use Rattle.protocol.specs.Walk.{added, spoiled, looked_up, causes_held, each, to_cause, visit_of, unmet, refused_walk, answer_of}
 use Rattle.reaches.specs.Reaches.{keys_of}
 use Rattle.guarantees.specs.Acknowledged.{after}
 use Rattle.guarantees.specs.Guarantees.{DrainedBy, SentReach, WalkedBy, AnsweredBy}
@@ -139,7 +136,7 @@ pub record BreaksEveryWalk (walk : State → ℕ → Walked) (steps : List Step)
   pub refuted : ¬ AnsweredBy walk
 
 pub record BitesFurther : Type 0 where
-  -- by document 01's rules these are the guarantees, and hold (6 and 7 are said of document 01's drain and walk in guarantees)
+  -- by the rules themselves these are the guarantees, and hold (6 and 7 are said of `drain_of` and `walk_of` in guarantees)
   pub at_most_one : AtMostOneBy right
   pub kept_for_ever : KeptForEverBy right
   pub stays_closed : StaysClosedBy right

@@ -1,4 +1,4 @@
--- Document 01's setup M, and the stretches of steps that the runs are made of.
+-- Setup M, and the stretches of steps that the runs are made of.
 use Rattle.std.specs.Prelude.{ℕ, List, [], ◌∷◌, ◌++◌, replicate}
 use Rattle.protocol.specs.declared.Setup.{Setup}
 use Rattle.protocol.specs.declared.Step.{Step}
@@ -8,7 +8,7 @@ use Rattle.protocol.specs.declared.Step.TheVariants.{Send, PreCheck, SendRecord,
 abbrev pub M : Setup
 M = record { stores = 3; actors = 2; homes = 0 ∷ 1 ∷ replicate 6 0; lists = 5 ∷ 6 ∷ replicate 6 0 }
 
--- "S" is send 0 to 1, own 0, data 7, no causes.
+-- S: send 0 to 1, own 0, data 7, no causes.
 abbrev pub S : Step
 S = Send 0 1 0 7 0
 

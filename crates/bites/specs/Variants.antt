@@ -1,4 +1,4 @@
--- Runs by document 01's rules with some of them replaced, and guarantees 1 to 5 said of such runs, word for word.
+-- Runs by the rules with some of them replaced, and guarantees 1 to 5 said of such runs, word for word.
 use Rattle.std.specs.Prelude.{ℕ, ◌+◌, ◌-◌, ◌≤◌, ◌<◌, ◌≡◌, true, List, [], ◌∷◌, ◌++◌, length, get_or}
 use Rattle.protocol.specs.Words.{pick, bit}
 use Rattle.protocol.specs.Slots.{number, view, lasting_viewlink as viewlink}
@@ -15,11 +15,11 @@ use Rattle.protocol.specs.Run.{fresh_of}
 use Rattle.guarantees.specs.Acknowledged.{Legal, accepted_into}
 use Rattle.guarantees.specs.Guarantees.{Holds}
 
--- the machine that a taken step gives; what refuses a step stays as document 01 says
+-- the machine that a taken step gives; what refuses a step stays as the rules say
 abbrev pub Rules : Type 0
 Rules = State → Step → State
 
--- document 01's
+-- the rules themselves
 abbrev pub right : Rules
 right = after_of
 

@@ -127,7 +127,7 @@ pub record Witnesses : Type 0 where
   -- 1, 3
   pub after_stay : AcceptsEffect stayed_receipt (TakeAck 1 1 0) 1 1 0
   pub after_move : AcceptsEffect moved_receipt (TakeAck 1 1 0) 1 1 0
-  -- 8: document 01's example book, with room for its answers, is not refused
+  -- 8: the example book, with room for its answers, is not refused
   pub book : (run_of example 4).answer ≡ 0
 
 -- The bound of 6 is met, so it can't be lowered: W3 makes one interaction, and its drain takes 22 steps.

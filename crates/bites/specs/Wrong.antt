@@ -1,4 +1,4 @@
--- The guarantees bite: document 01's five easy ways to get it wrong, each as a rule, with a run on which a guarantee fails by it.
+-- The guarantees bite: five easy ways to get a rule wrong, each as a rule, with a run on which a guarantee fails by it.
 use Rattle.std.specs.Prelude.{ℕ, ◌+◌, ◌-◌, ◌≡◌, ◌≢◌, true, List, [], ◌∷◌, ◌++◌, get_or}
 use Rattle.protocol.specs.Words.{bit}
 use Rattle.protocol.specs.Slots.{number, shelf, view, entry, lasting_viewlink as viewlink}
@@ -105,7 +105,7 @@ pub record BreaksCauseLinks (rules : Rules) (steps : List Step) (step : Step) (s
   pub refuted : ¬ CauseLinksBy rules
 
 pub record Bites : Type 0 where
-  -- by document 01's rules the two are the guarantees, and hold
+  -- by the rules themselves the two are the guarantees, and hold
   pub cause_links : CauseLinksBy right
   pub view_links : ViewLinksBy right
   -- by each wrong rule one of them fails

@@ -13,10 +13,9 @@ use borrow.Author.Tests.{eqb-true, eqb-false}
 use Rattle.protocol.specs.Words.{bit, times}
 use Rattle.protocol.specs.Slots.{number, view}
 use Rattle.protocol.specs.Walk.{walk_of}
-use Rattle.protocol.specs.Chain.{stated, keys_of, chain_of}
+use Rattle.protocol.specs.Chain.{stated, keys_of, chain_of, Interaction}
 use Rattle.protocol.specs.Provn.{entities, activities, derivations, relations, lines_of}
 use Rattle.protocol.specs.declared.State.{State}
-use Rattle.protocol.specs.declared.Interaction.{Interaction}
 use Rattle.unbroken.proofs.Laws.Tests.{by_test}
 use Rattle.chains.specs.Reading.{chain_read, recovered}
 use Rattle.chains.specs.Chains.{Each, none, more, Lawful, sixteen_bits, ChainRecovered, WalkRecovered, ValueRecovered, OneChain, Longest, OneDocument}

@@ -12,9 +12,8 @@ use lib.ListN.{length, get_or, set, replicate, length-append, length-set}
 use borrow.Author.Tests.{lt-ltb, eq-eqb, ne_eqb}
 use Rattle.protocol.specs.Words.{pick, bit, one, times}
 use Rattle.protocol.specs.Listing.{decimal}
-use Rattle.protocol.specs.Provn.{Line, entity, activity, was_generated_by, used, was_derived_from}
-use Rattle.protocol.specs.Provn.{words_of, text_of, entities, activities, derivations, relations, lines_of}
-use Rattle.protocol.specs.declared.Interaction.{Interaction}
+use Rattle.protocol.specs.Provn.{Line, entity, activity, was_generated_by, used, was_derived_from, words_of, text_of, entities, activities, derivations, relations, lines_of}
+use Rattle.protocol.specs.Chain.{Interaction}
 use Rattle.unbroken.proofs.Laws.Tests.{by_test}
 use Rattle.reaches.specs.Tally.{ones}
 use Rattle.reaches.proofs.Counted.{ones_low, ones_set}

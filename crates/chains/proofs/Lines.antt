@@ -9,10 +9,10 @@ use native.Mathlib.Nat.{div-add-mod}
 use native.Mathlib.Decide.{dec_lt}
 use lib.Dec.{ltb, eqb}
 use borrow.Author.Tests.{lt-ltb, le-ltb, ne_eqb}
+use Rattle.std.proofs.lemmas.Bool.{and_from, and_parts, not_from_false}
 use Rattle.protocol.specs.Listing.{decimal, glyph}
 use Rattle.protocol.specs.Provn.{Line, document, prefix, entity, activity, was_generated_by, used, was_derived_from, end_document}
 use Rattle.protocol.specs.Provn.{bytes, words_of, text_of}
-use Rattle.unbroken.proofs.Laws.Tests.{and_left, and_right, and_both, not_of}
 use Rattle.chains.specs.Reading.{lines_in, number_in, behind, line_read}
 use Rattle.chains.specs.Chains.{Each, none, more}
 
@@ -25,11 +25,11 @@ plain_append : (xs ys : List ℕ) → plain xs ≡ true → plain ys ≡ true �
 unfolding plain
 plain_append [] ys h k = k
 plain_append (x ∷ xs) ys h k =
-    and_both (not (eqb x 10)) (plain (xs ++ ys)) (and_left (not (eqb x 10)) (plain xs) h)
-    (plain_append xs ys (and_right (not (eqb x 10)) (plain xs) h) k)
+    and_from (not (eqb x 10)) (plain (xs ++ ys)) (and_parts (not (eqb x 10)) (plain xs) h).0
+    (plain_append xs ys (and_parts (not (eqb x 10)) (plain xs) h).1 k)
 
 plain_digit : (d : ℕ) → not (eqb (glyph d) 10) ≡ true
-plain_digit d = not_of (eqb (glyph d) 10) (ne_eqb (glyph d) 10 (λ e. omega arith))
+plain_digit d = not_from_false (eqb (glyph d) 10) (ne_eqb (glyph d) 10 (λ e. omega arith))
 
 -- a number below 100 is one digit or two
 pub one_digit : (n : ℕ) → n < 10 → decimal n ≡ glyph n ∷ []
@@ -44,8 +44,8 @@ plain_number : (n : ℕ) → n < 100 → plain (decimal n) ≡ true
 unfolding plain
 plain_number n h =
     elim (dec_lt n 10) [
-      | yes q ↦ rw (one_digit n q) (and_both _ true (plain_digit n) refl)
-      | no q ↦ rw (two_digits n (omega arith) h) (and_both _ _ (plain_digit (n / 10)) (and_both _ true (plain_digit (n % 10)) refl))
+      | yes q ↦ rw (one_digit n q) (and_from _ true (plain_digit n) refl)
+      | no q ↦ rw (two_digits n (omega arith) h) (and_from _ _ (plain_digit (n / 10)) (and_from _ true (plain_digit (n % 10)) refl))
     ]
 
 module _ (n b : ℕ) (rest : List ℕ) (low : n < 100) (ends : ltb b 48 ≡ true) where
@@ -135,7 +135,7 @@ first_line : (line rest : List ℕ) → plain line ≡ true → lines_in (line +
 unfolding lines_in plain
 first_line [] rest h = refl
 first_line (b ∷ line) rest h =
-    rw (not_true' (eqb b 10) (and_left (not (eqb b 10)) (plain line) h), first_line line rest (and_right (not (eqb b 10)) (plain line) h))
+    rw (not_true' (eqb b 10) (and_parts (not (eqb b 10)) (plain line) h).0, first_line line rest (and_parts (not (eqb b 10)) (plain line) h).1)
   where
     not_true' : (t : Bool) → not t ≡ true → t ≡ false
     not_true' true e = sym e

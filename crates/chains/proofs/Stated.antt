@@ -13,9 +13,8 @@ use lib.Dec.{eqb}
 use lib.ListN.{get_or, set, replicate}
 use borrow.Author.Tests.{eqb-true, eqb-false}
 use Rattle.protocol.specs.Words.{bit, one}
-use Rattle.protocol.specs.Provn.{Line, end_document}
-use Rattle.protocol.specs.Provn.{entities, activities, derivations, relations, lines_of}
-use Rattle.protocol.specs.declared.Interaction.{Interaction}
+use Rattle.protocol.specs.Provn.{Line, end_document, entities, activities, derivations, relations, lines_of}
+use Rattle.protocol.specs.Chain.{Interaction}
 use Rattle.unbroken.proofs.Laws.Tests.{by_test}
 use Rattle.chains.specs.Reading.{causes_read, chain_read}
 use Rattle.chains.specs.Chains.{sixteen_bits}

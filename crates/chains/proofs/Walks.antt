@@ -9,6 +9,7 @@ use native.Mathlib.Omega.{arith}
 use native.Mathlib.Decide.{dec_lt}
 use lib.Dec.{leb, eqb}
 use borrow.Author.Tests.{leb-false, eq-eqb}
+use Rattle.std.proofs.lemmas.Bool.{and_parts}
 use Rattle.protocol.specs.Words.{times}
 use Rattle.protocol.specs.Slots.{number, is_lasting}
 use Rattle.protocol.specs.Broken.{broken_of}
@@ -19,7 +20,7 @@ use Rattle.protocol.specs.declared.State.{State}
 use Rattle.unbroken.specs.Unbroken.{Unbroken}
 use Rattle.unbroken.proofs.Laws.{unbroken}
 use Rattle.unbroken.proofs.Laws.Room.{actors8}
-use Rattle.unbroken.proofs.Laws.Tests.{and_left, and_right, by_test}
+use Rattle.unbroken.proofs.Laws.Tests.{by_test}
 use Rattle.unbroken.proofs.Laws.Has.{has_kept}
 use Rattle.reaches.specs.Reaches.{Reach, here, by}
 use Rattle.reaches.proofs.Behind.{lasting_slot}
@@ -94,7 +95,7 @@ looked_up_holds m k i link e b f =
     let u = (answered m k e).whole in
     let p = link - 1 in
     let v = number i 0 in
-    let both = and_left (not (eqb link 0) && is_lasting m p v) (closed_of m i) f in
-    let lasts = and_right (not (eqb link 0)) (is_lasting m p v) both in
+    let both = (and_parts (not (eqb link 0) && is_lasting m p v) (closed_of m i) f).0 in
+    let lasts = (and_parts (not (eqb link 0)) (is_lasting m p v) both).1 in
     let slot = lasting_slot m u p v (omega arith) lasts in
     (slot.same_actor (has_kept m p v lasts), slot.same_causes (has_kept m p v lasts))

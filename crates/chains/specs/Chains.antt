@@ -3,11 +3,10 @@ use Rattle.std.specs.Prelude.{ℕ, ◌%◌, ◌-◌, ◌≤◌, ◌<◌, ◌≡�
 use Rattle.protocol.specs.Words.{bit}
 use Rattle.protocol.specs.Slots.{number, view, lasting_contents}
 use Rattle.protocol.specs.Walk.{found_of, walk_of}
-use Rattle.protocol.specs.Chain.{stated, chain_of}
+use Rattle.protocol.specs.Chain.{stated, chain_of, Interaction}
 use Rattle.protocol.specs.Provn.{text_of, lines_of, provn_text, provn_of, provn_buffer}
 use Rattle.protocol.specs.declared.State.{State}
-use Rattle.protocol.specs.declared.Interaction.{Interaction}
-use Rattle.protocol.specs.declared.Written.{Written}
+use Rattle.protocol.specs.Lent.{Written}
 use Rattle.chains.specs.Reading.{recovered}
 
 -- every element of a list

@@ -2,7 +2,7 @@
 use Rattle.std.specs.Prelude.{ℕ, ◌+◌, ◌*◌, ◌-◌, ◌^◌, List, [], ◌∷◌, map, ltb, eqb, get_or, drop}
 use Rattle.protocol.specs.Words.{pick}
 use Rattle.protocol.specs.Provn.{Line, document, prefix, entity, activity, was_generated_by, used, was_derived_from, end_document}
-use Rattle.protocol.specs.declared.Interaction.{Interaction}
+use Rattle.protocol.specs.Chain.{Interaction}
 
 -- what stands before each line feed
 abbrev pub onto_first : ℕ → List (List ℕ) → List (List ℕ)

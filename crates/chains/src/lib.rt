@@ -4,6 +4,7 @@
 
 ghost use Rattle.chains.specs.Chains.{ChainRecovered, WalkRecovered, ValueRecovered, OneChain, Longest, LookedUp, OneDocument};
 
+/// The laws of chains and their documents.
 #[tactic(auto, using(crate::proofs::Laws::chain_recovered, crate::proofs::Laws::walk_recovered, crate::proofs::Laws::value_recovered, crate::proofs::Laws::one_chain, crate::proofs::Laws::longest, crate::proofs::Walks::looked_up_holds, crate::proofs::Laws::one_document))]
 pub fn chain_laws()
     ensures chain { ChainRecovered }

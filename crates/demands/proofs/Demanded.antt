@@ -7,6 +7,7 @@ use Rattle.unbroken.proofs.Laws.Whole.{unbroken, whole}
 use Rattle.keeps.proofs.Applies.{step_refusals}
 use Rattle.keeps.proofs.Keeps.{refusal_gives_back, keeps, step_keeps}
 use Rattle.keeps.proofs.Laws.{one_result_holds as one_step, broken_gives, refused_gives, taken_exactly, taken_gives, answer_zero, joint_same, made_counts, sends_new_key, send_writes_links, receive_writes_link, store_writes_links, refuser_out, constant_out, pretender_out, results_differ}
+use Rattle.keeps.proofs.Numbers.{one_answer}
 use Rattle.keeps.proofs.Onward.{step_onward, closed_says, closed_stays}
 use Rattle.keeps.proofs.Lasting.{blank_backed, step_backed, step_lasts}
 use Rattle.reads.proofs.Again.{reads_alike, writes_again, one_reading}
@@ -38,6 +39,7 @@ pub demanded : Demands
 demanded =
     record {
       every_call = every_call;
+      one_answer = one_answer;
       one_step = one_step;
       one_run = one_run;
       one_walk = one_walk;

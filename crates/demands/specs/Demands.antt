@@ -1,5 +1,6 @@
--- The three demands as one record: a field for each statement, under the sentence that it states. Each field is named as the
--- theorem that proves it, and the statements stand with their laws. One that is no field here could lose its proof unnoticed.
+-- The three demands of docs/GUARANTEES.md as one record: a field for each statement, under the sentence that it states. Each field is
+-- named as the theorem that proves it, and the statements stand with their laws. One that is no field here could lose its proof
+-- unnoticed.
 use Rattle.std.specs.Prelude.{ℕ, ◌≡◌, true, false, List, length}
 use Rattle.protocol.specs.declared.State.{State}
 use Rattle.protocol.specs.Setup.{legal, fresh_with, empty_machine}
@@ -12,6 +13,7 @@ use Rattle.keeps.specs.Keeps.{Keeps, StepKeeps, RefusalGivesBack}
 use Rattle.keeps.specs.Laws.{TakenExactly, TakenGives, RefusedGives, BrokenGives, AnswerZero, JointSame}
 use Rattle.keeps.specs.Laws.{MadeCounts, SendsNewKey, SendWritesLinks, ReceiveWritesLink, StoreWritesLinks}
 use Rattle.keeps.specs.Laws.{Program, RefuserOut, ConstantOut, PretenderOut, ResultsDiffer}
+use Rattle.keeps.specs.Laws.{OneAnswer}
 use Rattle.keeps.specs.Laws.{OneResult as OneStep}
 use Rattle.keeps.specs.Onward.{StepOnward, ClosedSays, ClosedStays}
 use Rattle.keeps.specs.Lasting.{BlankBacked, StepBacked, StepLasts}
@@ -34,13 +36,14 @@ use Rattle.bites.specs.Checkpoints.{BitesCheckpoints}
 use Rattle.bites.specs.Duplicates.{BitesDuplicates}
 
 pub record Demands : Type 0 where
-  -- 1. Every call ends and answers, for every machine value, step and run book, and no two results satisfy its promise.
+  -- 1. Answers. Every call ends and answers, for every machine value, step and run book, and no two results satisfy its promise.
   pub every_call : EveryCall
+  pub one_answer : OneAnswer
   pub one_step : OneStep
   pub one_run : OneRun
   pub one_walk : OneWalk
-  -- Bad input is refused by the numbers of document 01, the lowest that applies; a broken value, which is one that its list is
-  -- about, by 1.
+  -- Bad input is refused by the numbers of docs/REFUSALS.md, the lowest that applies; a broken value, which is one that RULES.md,
+  -- Broken values is about, by 1.
   pub setup_refusals : SetupRefusals
   pub step_refusals : StepRefusals
   pub book_refusals : BookRefusals
@@ -57,7 +60,7 @@ pub record Demands : Type 0 where
   pub refused_setup : RefusedSetup
   pub refused_book : RefusedBook
   pub refused_empty : RefusedEmpty
-  -- 2. A step is taken exactly when its rule allows it, and then gives exactly the machine which that rule states.
+  -- 2. Rules. A step is taken exactly when its rule allows it, and then gives exactly the machine which that rule states.
   pub taken_exactly : TakenExactly
   pub taken_gives : TakenGives
   pub answer_zero : AnswerZero
@@ -79,7 +82,7 @@ pub record Demands : Type 0 where
   pub answers_fold : AnswersFold
   pub behind_stay : BehindStay
   pub taken_are_zeros : TakenAreZeros
-  -- Programs that do less are shut out; document 01's example and marked runs come out as it has them.
+  -- Programs that do less are shut out; the example book and the marked runs of docs/RUNS.md come out as they must.
   pub refuser_out : (f : Program) → RefuserOut f
   pub constant_out : (f : Program) → ConstantOut f
   pub pretender_out : (f : Program) → PretenderOut f
@@ -87,7 +90,8 @@ pub record Demands : Type 0 where
   pub idle_shut_out : IdleShutOut
   pub example_runs : ExampleRuns
   pub marked_runs : Claim
-  -- 3. From a legal setup, after any steps with losses, timeouts, crashes and checkpoints: the guarantees, in their order.
+  -- 3. Delivery. From a legal setup, after any steps with losses, timeouts, crashes, checkpoints and duplicates: the guarantees, in
+  -- their order.
   pub one_acknowledgement : OneAcknowledgement
   pub kept_for_ever_holds : KeptForEver
   pub ack_in_flight : AckInFlight

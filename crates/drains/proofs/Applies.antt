@@ -7,14 +7,14 @@ use mathlib.Core.Bool.{Bool, true, false, not}
 use native.Mathlib.Omega.{arith}
 use lib.Dec.{leb}
 use borrow.Author.Tests.{not-true, leb-false, lt-leb}
+use Rattle.std.proofs.lemmas.Bool.{both_ways, not_from_false, or_parts}
 use Rattle.protocol.specs.Words.{pick, all_below}
 use Rattle.protocol.specs.Slots.{no_store, shelf, is_up}
 use Rattle.protocol.specs.Broken.{broken_of}
 use Rattle.protocol.specs.declared.State.{State}
-use Rattle.protocol.specs.declared.Drained.{Drained}
-use Rattle.protocol.specs.Drain.{course, up_in, all_up, drained, drain_of}
+use Rattle.protocol.specs.Drain.{Drained, course, up_in, all_up, drained, drain_of}
 use Rattle.unbroken.proofs.Laws.{unbroken}
-use Rattle.unbroken.proofs.Laws.Tests.{by_test, not_both, or_else, nor_left, nor_right, not_of}
+use Rattle.unbroken.proofs.Laws.Tests.{by_test, or_else}
 use Rattle.unbroken.proofs.Laws.Every.{all_at, all_each, below_at, below_fails}
 use Rattle.keeps.proofs.Stores.{store_8}
 use Rattle.unbroken.specs.Lowest.{IsLowest}
@@ -49,8 +49,8 @@ module _ (m : State) where
   finds_down b e =
       let long = (unbroken m b).sized.shelves in
       let up : ℕ → Bool = λ p. up_in m.stores p (shelf m p) in
-      let x = below_fails 8 up (by_test (all_below 8 up) (λ h. not_both (all_up m) (all_each (up_in m.stores) m.shelves no_store (λ p l. below_at 8 up h p (omega arith))) e) (λ h. h)) in
-      (x.0, leb-false m.stores x.0 (nor_left (leb m.stores x.0) (is_up m x.0) x.2), nor_right (leb m.stores x.0) (is_up m x.0) x.2)
+      let x = below_fails 8 up (by_test (all_below 8 up) (λ h. absurd (both_ways (all_up m) e (all_each (up_in m.stores) m.shelves no_store (λ p l. below_at 8 up h p (omega arith))))) (λ h. h)) in
+      (x.0, leb-false m.stores x.0 (or_parts (leb m.stores x.0) (is_up m x.0) x.2).0, (or_parts (leb m.stores x.0) (is_up m x.0) x.2).1)
 
   told_down : {n : ℕ} → broken_of m ≡ false → Applies m n → n ≡ 5 → all_up m ≡ false
   told_down b (is_broken e) q = absurd (omega arith)
@@ -58,7 +58,7 @@ module _ (m : State) where
       let s = unbroken m b in
       let h = store_8 m s p l in
       let long = s.sized.shelves in
-      by_test (all_up m) (λ u. not_both (is_up m p) (or_else (leb m.stores p) (is_up m p) (all_at (up_in m.stores) m.shelves no_store u p (omega arith)) (lt-leb m.stores p l)) e) (λ u. u)
+      by_test (all_up m) (λ u. absurd (both_ways (is_up m p) e (or_else (leb m.stores p) (is_up m p) (all_at (up_in m.stores) m.shelves no_store u p (omega arith)) (lt-leb m.stores p l)))) (λ u. u)
 
 pub drain_refusals : DrainRefusals
 unfolding drain_of
@@ -67,7 +67,7 @@ drain_refusals m =
     (lowest (λ a. ⊎_elim (λ e. omega arith) (λ e. omega arith) (numbers m a))
     (from_test {test = broken_of m} (omega arith) (omega arith) (record { tells = λ e. is_broken e; told = λ a. told_broken m a refl }) (λ i l u a. omega arith)
     (λ b. from_test {test = not (all_up m)} (omega arith) (omega arith)
-    (record { tells = λ e. (let x = finds_down m b (not-true (all_up m) e) in is_down x.0 x.1 x.2); told = λ a. not_of (all_up m) (told_down m b a refl) })
+    (record { tells = λ e. (let x = finds_down m b (not-true (all_up m) e) in is_down x.0 x.1 x.2); told = λ a. not_from_false (all_up m) (told_down m b a refl) })
     (λ i l u a. ⊎_elim (λ e. omega arith) (λ e. omega arith) (numbers m a))
     (λ u. from_none (λ i l a. ⊎_elim (λ e. omega arith) (λ e. omega arith) (numbers m a))))))
 

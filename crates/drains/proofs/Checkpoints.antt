@@ -9,21 +9,21 @@ use native.Mathlib.Decide.{ℕ_discrete}
 use lib.Dec.{eqb}
 use lib.ListN.{get_or, set}
 use borrow.Author.Tests.{eq-eqb, ne_eqb, lt-leb}
+use Rattle.std.proofs.lemmas.Bool.{or_right}
+use Rattle.std.proofs.Math.Bool.{or-false}
+use Rattle.std.proofs.Common.{rules}
 use Rattle.protocol.specs.Words.{pick, bit}
-use Rattle.protocol.specs.Slots.{number, place, status_number, shelf, is_up, view, repair, entry, ack_copies, uack_copies, owes_ack, owes_uack}
+use Rattle.protocol.specs.Slots.{place, shelf, is_up, view, repair, entry, ack_copies, uack_copies, owes_ack, owes_uack}
 use Rattle.protocol.specs.Stores.{saved}
 use Rattle.protocol.specs.Sweep.{swept}
 use Rattle.protocol.specs.Checkpoint.{sent_owed, checkpoint_no, checkpointed}
 use Rattle.protocol.specs.declared.State.{State}
 use Rattle.protocol.specs.declared.Store.{Store}
 use Rattle.protocol.specs.declared.View.{View}
-use Rattle.protocol.specs.declared.Entry.{Entry}
 use Rattle.protocol.specs.declared.Status.TheVariants.{Waiting}
 use Rattle.protocol.specs.declared.Step.TheVariants.{Checkpoint}
 use Rattle.protocol.specs.Rule.{more}
-use Rattle.protocol.specs.Drain.{up_in}
 use Rattle.unbroken.specs.Unbroken.{Unbroken}
-use Rattle.unbroken.proofs.Laws.Tests.{or_none, or_second}
 use Rattle.unbroken.proofs.Laws.Bits.{bit_none}
 use Rattle.unbroken.proofs.Laws.Room.{stores8, made_32}
 use Rattle.unbroken.proofs.Places.{places_at}
@@ -35,8 +35,8 @@ use Rattle.drains.proofs.Jobs.{Lowers, some_more}
 
 -- an owed note is a copy in flight
 sent_some : (n : ℕ) (b : Bool) → not (eqb (pick b (more n) n) 0) ≡ (not (eqb n 0) || b)
-sent_some n true = some_more n ∙ sym (or_second (not (eqb n 0)) true refl)
-sent_some n false = sym (or_none (not (eqb n 0)))
+sent_some n true = some_more n ∙ sym (or_right (not (eqb n 0)) true refl)
+sent_some n false = sym (or-false (not (eqb n 0)))
 
 -- whether a store is the view's, and its entry's destination
 abbrev holds : State → ℕ → ℕ → Bool
@@ -53,26 +53,10 @@ module _ (m : State) (w : Unbroken m) (p : ℕ) (hp : p < m.stores) where
   module _ (notes : Store → ℕ) (q u : ℕ) where
     sent_at : (l : List ℕ) → q < 8 → u < 32
         → not (eqb (get_or (sent_owed (notes (shelf m p)) p l) (place q u) 0) 0) ≡ pick (eqb q p) (not (eqb (get_or l (place q u) 0) 0) || bit (notes (shelf m q)) u) (not (eqb (get_or l (place q u) 0) 0))
-    sent_at l hq hu = ap (λ (n : ℕ). not (eqb n 0)) (places_at 32 p (λ v n. pick (bit (notes (shelf m p)) v) (more n) n) 0 l q u hq hu) ∙ go (ℕ_discrete q p)
-      where
-        here : ℕ
-        here = get_or l (place q u) 0
-
-        go : Dec (q ≡ p) → not (eqb (pick (eqb q p) (pick (bit (notes (shelf m p)) u) (more here) here) here) 0) ≡ pick (eqb q p) (not (eqb here 0) || bit (notes (shelf m q)) u) (not (eqb here 0))
-        go (yes e) = rw (eq-eqb q p e) (sent_some here (bit (notes (shelf m p)) u) ∙ ap (λ (i : ℕ). not (eqb here 0) || bit (notes (shelf m i)) u) (sym e))
-        go (no e) = rw (ne_eqb q p e)
+    sent_at l e f = search (rules, places_at, eq-eqb, sent_some, ne_eqb)
 
     owed_at : notes (saved (shelf m p)) ≡ 0 → in_set notes (set m.shelves p (saved (shelf m p))) q u ≡ pick (eqb q p) false (in_set notes m.shelves q u)
-    owed_at e = go (ℕ_discrete q p)
-      where
-        x : Store
-        x = saved (shelf m p)
-
-        go : Dec (q ≡ p) → in_set notes (set m.shelves p x) q u ≡ pick (eqb q p) false (in_set notes m.shelves q u)
-        go (yes d) =
-            rw (eq-eqb q p d)
-            (ap (λ (i : ℕ). in_set notes (set m.shelves p x) i u) d ∙ ap (λ (s : Store). bit (notes s) u) (shelf_same m.shelves p x w.sized.shelves in8) ∙ ap (λ (n : ℕ). bit n u) e ∙ bit_none u)
-        go (no d) = rw (ne_eqb q p d) (ap (λ (s : Store). bit (notes s) u) (shelf_beside m.shelves p x q d))
+    owed_at e = search (rules, eq-eqb, shelf_same, in8, bit_none, ne_eqb, shelf_beside)
 
   -- the store of a view, and its entry's destination, is one of eight
   store_at_holds : (u : ℕ) → u < m.made * 2 → (view m u).store < 8
@@ -83,11 +67,7 @@ module _ (m : State) (w : Unbroken m) (p : ℕ) (hp : p < m.stores) where
       go (no e) = omega (arith, (w.view_at u (made_32 m w u h)).store_in (omega arith), stores8 m w)
 
   destination_at : (u : ℕ) → u < m.made * 2 → (entry m u).destination < 8
-  destination_at u h = go (ℕ_discrete (status_number (entry m u).status) 0)
-    where
-      go : Dec (status_number (entry m u).status ≡ 0) → (entry m u).destination < 8
-      go (yes e) = omega (arith, ap (λ (x : Entry). x.destination) ((w.entry_at u (made_32 m w u h)).blank e))
-      go (no e) = omega (arith, (w.entry_at u (made_32 m w u h)).destination_in (omega arith), stores8 m w)
+  destination_at u e = search (rules, made_32, stores8)
 
   abbrev after : ℕ → Seen
   after u = noted (holds m p u) (awaits m p u) (seen_of m u)
@@ -106,15 +86,7 @@ module _ (m : State) (w : Unbroken m) (p : ℕ) (hp : p < m.stores) where
 
   checkpoint_good : (v : ℕ) → v < m.made * 2 → is_up m p ≡ true → steps_left (after v) (after (opposite v)) < steps_left (seen_of m v) (seen_of m (opposite v)) → Lowers m (Checkpoint p)
   unfolding checkpoint_no checkpointed swept
-  checkpoint_good v hv up low =
-      record {
-        taken = rw (lt-leb m.stores p hp, up);
-        lower = total_lower m (checkpointed m p) refl v hv (rw (seen_after v hv, seen_after (opposite v) (omega arith)) low)
-            (λ j l d. rw (seen_after (number j 0) (omega arith), seen_after (number j 1) (omega arith)) (noted_most (holds m p (number j 0)) (awaits m p (number j 0)) (holds m p (number j 1)) (awaits m p (number j 1)) (seen_of m (number j 0)) (seen_of m (number j 1))));
-        up = shelf_unseen m.shelves p (saved (shelf m p)) (up_in m.stores) (λ q. refl);
-        stores = refl;
-        made = refl;
-      }
+  checkpoint_good v e f g = search (rules, lt-leb, total_lower, seen_after, noted_most, seen_of, shelf_unseen)
 
 module _ (m : State) (w : Unbroken m) (v : ℕ) (hv : v < m.made * 2) where
   -- the head waits for an ack that its store owes

@@ -1,14 +1,15 @@
 -- The laws of the drain: as each step leaves one step less, and no machine has more than 22 left for an interaction, it comes to
 -- rest before the stop. By induction on the stop; assumes nothing.
+use Rattle.std.specs.Prelude.{Some, None, Option}
 use Prim.Native.Nat.{ℕ, zero, suc, ◌*◌, ◌≤◌, ◌<◌}
 use mathlib.Core.Path.{◌≡◌, refl, sym, ap, ◌∙◌, subst}
-use mathlib.Core.Bool.{Bool, true, false, not}
+use mathlib.Core.Bool.{false}
 use mathlib.Core.List.{◌∷◌}
 use native.Mathlib.Omega.{arith}
 use lib.Dec.{eqb}
 use lib.ListN.{length, replicate}
 use borrow.Author.Tests.{eqb-false, not-true}
-use Rattle.protocol.specs.Words.{pick}
+use Rattle.std.proofs.Common.{rules}
 use Rattle.protocol.specs.Slots.{entry, status_number}
 use Rattle.protocol.specs.Setup.{answered}
 use Rattle.unbroken.specs.Unbroken.{Unbroken}
@@ -20,10 +21,7 @@ use Rattle.protocol.specs.Step.{number_of, after_of, rule_of, step_of}
 use Rattle.protocol.specs.declared.Step.{Step}
 use Rattle.keeps.proofs.Keeps.{keeps}
 use Rattle.protocol.specs.Run.{ran, answers}
-use Rattle.protocol.specs.Drain.{turn_of, Course, stays, after, on_turn, course, all_up, drain_of}
-use Rattle.protocol.specs.declared.Drained.{Drained}
-use Rattle.protocol.specs.declared.Turn.{Turn}
-use Rattle.protocol.specs.declared.Turn.TheVariants.{Take, Rest}
+use Rattle.protocol.specs.Drain.{turn_of, Course, stays, after, on_turn, course, drain_of}
 use Rattle.drains.specs.Drains.{Drainable, TakesEachStep, steps_of, end_of, DrainEnds, DrainsOnce, CountIsFew}
 use Rattle.drains.proofs.StepsLeft.{Regular}
 use Rattle.drains.proofs.Total.{seen_of, total, total_most}
@@ -41,20 +39,14 @@ unfolding course
 course_few zero m = omega arith
 course_few (suc n) m = go (turn_of m) (λ s. course_few n (step_of m s).state)
   where
-    go : (t : Turn) → ((s : Step) → length (course n (step_of m s).state).steps ≤ n)
+    go : (t : Option Step) → ((s : Step) → length (course n (step_of m s).state).steps ≤ n)
         → length (on_turn t (stays m) (λ s. after s (course n (step_of m s).state))).steps ≤ suc n
-    go Rest ih = omega arith
-    go (Take s) ih = omega (arith, ih s)
+    go None ih = omega arith
+    go (Some s) ih = omega (arith, ih s)
 
 pub count_few : CountIsFew
 unfolding drain_of
-count_few m = go (broken_of m) (all_up m)
-  where
-    go : (b c : Bool) → (pick {A = Drained} b (record { state = m; answer = 1; count = 0 })
-        (pick (not c) (record { state = m; answer = 5; count = 0 }) (record { state = end_of m; answer = 0; count = length (steps_of m) }))).count ≤ m.made * 22
-    go true c = omega arith
-    go false false = omega arith
-    go false true = course_few (m.made * 22) m
+count_few = search (rules, course_few)
 
 -- what the drain sees of an unbroken machine's views
 regular : (m : State) → Unbroken m → (v : ℕ) → v < m.made * 2 → Regular (seen_of m v)
@@ -71,37 +63,32 @@ regular m w v h =
 next : (m : State) → Drainable m → Does m (turn_of m)
 next m d = does m (unbroken m d.unbroken) d.up
 
-lowers : (m : State) (s : Step) → Drainable m → turn_of m ≡ Take s → Lowers m s
+lowers : (m : State) (s : Step) → Drainable m → turn_of m ≡ Some s → Lowers m s
 lowers m s d e = subst (Does m) e (next m d)
 
 pub takes : TakesEachStep
 takes m s d e =
     let l = lowers m s d e in
-    record {
-      number = l.taken;
-      step = step_taken m s d.unbroken l.taken;
-      drainable = record { unbroken = keeps m s d.unbroken l.taken; up = l.up ∙ d.up };
-      made = l.made;
-    }
+    search (rules, lowers, step_taken, unbroken, keeps)
 
 -- a machine with no step left is at rest
-none_left : (m : State) → Drainable m → total m ≤ 0 → turn_of m ≡ Rest
+none_left : (m : State) → Drainable m → total m ≤ 0 → turn_of m ≡ None
 none_left m d h = go (turn_of m) refl
   where
-    go : (t : Turn) → turn_of m ≡ t → t ≡ Rest
-    go Rest e = refl
-    go (Take s) e = absurd (omega (arith, (lowers m s d e).lower))
+    go : (t : Option Step) → turn_of m ≡ t → t ≡ None
+    go None e = refl
+    go (Some s) e = absurd (omega (arith, (lowers m s d e).lower))
 
 -- with room for the steps left the drain comes to rest, and takes every step
 record Comes (m : State) (c : Course) : Type 0 where
-  rests : turn_of c.state ≡ Rest
+  rests : turn_of c.state ≡ None
   count : length c.steps ≤ total m
   run : c.state ≡ ran m c.steps
   taken : answers m c.steps ≡ replicate (length c.steps) 0
   drainable : Drainable c.state
   made : c.state.made ≡ m.made
 
-comes_resting : (m : State) → Drainable m → turn_of m ≡ Rest → Comes m (stays m)
+comes_resting : (m : State) → Drainable m → turn_of m ≡ None → Comes m (stays m)
 unfolding ran answers
 comes_resting m d e = record { rests = e; count = omega arith; run = refl; taken = refl; drainable = d; made = refl }
 
@@ -111,9 +98,9 @@ comes zero m d h = comes_resting m d (none_left m d h)
 comes (suc n) m d h = go (λ s. comes n (step_of m s).state) (turn_of m) refl
   where
     go : ((s : Step) → Drainable (step_of m s).state → total (step_of m s).state ≤ n → Comes (step_of m s).state (course n (step_of m s).state))
-        → (t : Turn) → turn_of m ≡ t → Comes m (on_turn t (stays m) (λ s. after s (course n (step_of m s).state)))
-    go ih Rest e = comes_resting m d e
-    go ih (Take s) e =
+        → (t : Option Step) → turn_of m ≡ t → Comes m (on_turn t (stays m) (λ s. after s (course n (step_of m s).state)))
+    go ih None e = comes_resting m d e
+    go ih (Some s) e =
         let k = takes m s d e in
         let same : (step_of m s).state ≡ after_of m s = ap (λ r. r.state) k.step in
         let less : total (step_of m s).state < total m = rw same (lowers m s d e).lower in
@@ -128,7 +115,7 @@ comes (suc n) m d h = go (λ s. comes n (step_of m s).state) (turn_of m) refl
         }
 
 -- at rest it takes none, whatever the stop
-course_resting : (n : ℕ) (m : State) → turn_of m ≡ Rest → course n m ≡ stays m
+course_resting : (n : ℕ) (m : State) → turn_of m ≡ None → course n m ≡ stays m
 unfolding course
 course_resting zero m e = refl
 course_resting (suc n) m e = rw e
@@ -141,10 +128,10 @@ same_course (suc n) zero m d h l = course_resting (suc n) m (none_left m d l)
 same_course (suc n) (suc k) m d h l = go (λ s. same_course n k (step_of m s).state) (turn_of m) refl
   where
     go : ((s : Step) → Drainable (step_of m s).state → total (step_of m s).state ≤ n → total (step_of m s).state ≤ k → course n (step_of m s).state ≡ course k (step_of m s).state)
-        → (t : Turn) → turn_of m ≡ t
+        → (t : Option Step) → turn_of m ≡ t
         → on_turn t (stays m) (λ s. after s (course n (step_of m s).state)) ≡ on_turn t (stays m) (λ s. after s (course k (step_of m s).state))
-    go ih Rest e = refl
-    go ih (Take s) e =
+    go ih None e = refl
+    go ih (Some s) e =
         let t = takes m s d e in
         let same : (step_of m s).state ≡ after_of m s = ap (λ r. r.state) t.step in
         let less : total (step_of m s).state < total m = rw same (lowers m s d e).lower in
@@ -159,19 +146,9 @@ drain_ends m d =
     let most = total_most m (regular m (unbroken m d.unbroken)) in
     let c = comes (m.made * 22) m d most in
     let rest : AtRest (end_of m) = subst (Does (end_of m)) c.rests (next (end_of m) c.drainable) in
-    record {
-      result = drained m d;
-      rests = c.rests;
-      unstopped = λ n h. same_course n (m.made * 22) m d (omega arith) most;
-      count = omega (arith, c.count);
-      run = c.run;
-      taken = c.taken;
-      drainable = c.drainable;
-      made = c.made;
-      closes = λ k h. rest_closes (end_of m) rest k (omega (arith, c.made));
-    }
+    search (rules, total_most, regular, unbroken, comes, next, drained, same_course, rest_closes)
 
-drained_resting : (m : State) → Drainable m → turn_of m ≡ Rest → drain_of m ≡ record { state = m; answer = 0; count = 0 }
+drained_resting : (m : State) → Drainable m → turn_of m ≡ None → drain_of m ≡ record { state = m; answer = 0; count = 0 }
 unfolding drain_of
 drained_resting m d e = rw (d.unbroken, d.up, course_resting (m.made * 22) m e)
 

@@ -3,14 +3,15 @@
 use Prim.Native.Nat.{ℕ, ◌-◌, ◌*◌, ◌≤◌, ◌<◌}
 use mathlib.Core.Path.{◌≡◌, refl}
 use mathlib.Core.Logic.{◌≢◌}
-use mathlib.Core.Bool.{Bool, true, false, not, true≢false}
+use mathlib.Core.Bool.{Bool, true, false, not}
 use native.Mathlib.Omega.{arith}
 use lib.Dec.{eqb}
-use lib.ListN.{length, set, length-set}
+use lib.ListN.{length, length-set}
 use lib.Seq.{get_or-set_same, get_or-set_other}
 use borrow.Author.Tests.{eq-eqb, lt-leb}
+use Rattle.std.proofs.Common.{rules}
 use Rattle.protocol.specs.Words.{bit}
-use Rattle.protocol.specs.Slots.{number, place, no_repair, no_entry, status_number, is_up, shelf, view, repair, entry, update_copies, uack_copies, owes_uack}
+use Rattle.protocol.specs.Slots.{number, place, no_entry, is_up, shelf, view, repair, entry, update_copies, uack_copies, owes_uack}
 use Rattle.unbroken.specs.Unbroken.{Unbroken}
 use Rattle.unbroken.proofs.Laws.Room.{made_32}
 use Rattle.unbroken.proofs.Shelves.{shelf_left, shelf_unseen}
@@ -33,22 +34,7 @@ use Rattle.drains.proofs.Jobs.{Lowers, same_number, some_more, place_other}
 
 -- a status is known by its number
 no_entry_holds : (s : Status) → has_entry s ≡ false → s ≡ Nothing
-no_entry_holds Nothing e = refl
-no_entry_holds ToSend e = absurd (true≢false e)
-no_entry_holds Waiting e = absurd (true≢false e)
-no_entry_holds Done e = absurd (true≢false e)
-
-pub to_send_holds : (s : Status) → status_number s ≡ 1 → s ≡ ToSend
-to_send_holds Nothing e = absurd (omega arith)
-to_send_holds ToSend e = refl
-to_send_holds Waiting e = absurd (omega arith)
-to_send_holds Done e = absurd (omega arith)
-
-pub waiting : (s : Status) → status_number s ≡ 2 → s ≡ Waiting
-waiting Nothing e = absurd (omega arith)
-waiting ToSend e = absurd (omega arith)
-waiting Waiting e = refl
-waiting Done e = absurd (omega arith)
+no_entry_holds s e = search rules
 
 module _ (m : State) (w : Unbroken m) (v : ℕ) (hv : v < m.made * 2) where
   abbrev s : Seen
@@ -76,33 +62,16 @@ module _ (m : State) (w : Unbroken m) (v : ℕ) (hv : v < m.made * 2) where
   repaired_own : seen_of (repair_taken m (key_of v) (role_of v)) v
       ≡ seen s.phase s.changed false ToSend s.ack s.ack_owed s.sent (not (eqb (uack_copies m mine.destination v) 0)) (owes_uack m mine.destination v) (not (eqb (update_copies m mine.destination v) 0))
   unfolding repair_taken seen_of
-  repaired_own =
-      rw (
-        same_number v,
-        get_or-set_same m.repairs v no_repair no_repair (omega (arith, w.sized.repairs, w.made16)),
-        get_or-set_other (set m.entries v mine) o v its no_entry (omega arith),
-        get_or-set_same m.entries v mine no_entry in_entries,
-      )
+  repaired_own = search (rules, same_number, get_or-set_same, get_or-set_other, in_entries)
 
   repaired_other : seen_of (repair_taken m (key_of v) (role_of v)) o
       ≡ seen t.phase t.changed t.repair its.status t.ack t.ack_owed t.sent (not (eqb (uack_copies m its.destination o) 0)) (owes_uack m its.destination o) (not (eqb (update_copies m its.destination o) 0))
   unfolding repair_taken seen_of
-  repaired_other =
-      rw (
-        same_number v,
-        get_or-set_other m.repairs v o no_repair no_repair (omega arith),
-        get_or-set_same (set m.entries v mine) o its no_entry (omega (arith, length-set m.entries v mine, w.sized.entries, w.made16)),
-      )
+  repaired_other = search (rules, same_number, get_or-set_other, get_or-set_same, length-set)
 
   repaired_far : (u : ℕ) → u < m.made * 2 → u ≢ v → u ≢ o → seen_of (repair_taken m (key_of v) (role_of v)) u ≡ seen_of m u
   unfolding repair_taken seen_of
-  repaired_far u l a b =
-      rw (
-        same_number v,
-        get_or-set_other m.repairs v u no_repair no_repair a,
-        get_or-set_other (set m.entries v mine) o u its no_entry b,
-        get_or-set_other m.entries v u mine no_entry a,
-      )
+  repaired_far u e f g = search (rules, same_number, get_or-set_other)
 
   repaired_low : (view m v).phase ≡ 5 → (repair m v).flying ≡ true
       → steps_left (seen_of (repair_taken m (key_of v) (role_of v)) v) (seen_of (repair_taken m (key_of v) (role_of v)) o) < steps_left s t

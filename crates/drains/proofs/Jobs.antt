@@ -1,15 +1,16 @@
 -- The drain's steps for a view that is not settled are taken, and each leaves one step less. Every array that a step writes is
 -- read again where it was written, and elsewhere. Assumes nothing.
-use Prim.Native.Nat.{ℕ, ◌+◌, ◌-◌, ◌*◌, ◌≤◌, ◌<◌}
+use Prim.Native.Nat.{ℕ, ◌-◌, ◌*◌, ◌≤◌, ◌<◌}
 use mathlib.Core.Path.{◌≡◌, refl, ap, ◌∙◌}
 use mathlib.Core.Logic.{◌≢◌}
 use mathlib.Core.Bool.{Bool, true, false, not}
 use native.Mathlib.Omega.{arith}
-use lib.Dec.{eqb, ltb}
+use lib.Dec.{eqb}
 use lib.ListN.{length}
 use lib.Seq.{get_or-set_same, get_or-set_other}
 use borrow.Author.Tests.{eq-eqb, ne_eqb, lt-leb, ltb-false}
-use Rattle.protocol.specs.Words.{pick, bit}
+use Rattle.std.proofs.Common.{rules}
+use Rattle.protocol.specs.Words.{bit}
 use Rattle.protocol.specs.Slots.{number, place, no_view, no_repair, is_up, shelf, list, queue, view, repair, entry, record_copies, ack_copies, owes_ack}
 use Rattle.protocol.specs.Writes.{with_view, with_record_copies, with_ack_copies}
 use Rattle.unbroken.specs.Unbroken.{Unbroken}
@@ -49,19 +50,11 @@ same_number v = omega arith
 
 -- where copies go, there are some
 pub some_more : (n : ℕ) → not (eqb (more n) 0) ≡ true
-some_more n = go (ltb n 15) refl
-  where
-    go : (b : Bool) → ltb n 15 ≡ b → not (eqb (pick b (n + 1) n) 0) ≡ true
-    go true e = rw (ne_eqb (n + 1) 0 (omega arith))
-    go false e = rw (ne_eqb n 0 (omega (arith, ltb-false n 15 e)))
+some_more n = search (rules, ne_eqb, ltb-false)
 
 -- a repair is in flight after the post-check if the view has changed
 asked_flies : (r : Repair) (x : View) → r.flying ≡ false → (asked_repair r x).flying ≡ x.changed
-asked_flies r x e = go x.changed
-  where
-    go : (b : Bool) → (pick b (record { flying = true; destination = x.viewlink; own = x.store }) r).flying ≡ b
-    go true = refl
-    go false = e
+asked_flies r x e = search rules
 
 -- places of two views are two
 pub place_other : (p v q u : ℕ) → v < 32 → u < 32 → u ≢ v → place q u ≢ place p v
@@ -100,11 +93,7 @@ module _ (m : State) (w : Unbroken m) (v : ℕ) (hv : v < m.made * 2) where
 
     record_far : (u : ℕ) → u < m.made * 2 → u ≢ v → seen_of (with_record_copies (with_view m v x) x.store v c) u ≡ seen_of m u
     unfolding seen_of
-    record_far u l n =
-        rw (
-          get_or-set_other m.views v u x no_view n,
-          get_or-set_other m.records (place x.store v) (place (view m u).store u) c 0 (place_other x.store v (view m u).store u (made_32 m w v hv) (made_32 m w u l) n),
-        )
+    record_far u e f = search (rules, get_or-set_other, place_other, made_32)
 
     seen_ack : seen_of (with_ack_copies (with_view m v x) x.store v c) v
         ≡ seen x.phase x.changed me.repair me.status (not (eqb c 0)) (owes_ack m x.store v) (not (eqb (record_copies m x.store v) 0)) me.uack me.uack_owed me.update
@@ -114,11 +103,7 @@ module _ (m : State) (w : Unbroken m) (v : ℕ) (hv : v < m.made * 2) where
 
     ack_far : (u : ℕ) → u < m.made * 2 → u ≢ v → seen_of (with_ack_copies (with_view m v x) x.store v c) u ≡ seen_of m u
     unfolding seen_of
-    ack_far u l n =
-        rw (
-          get_or-set_other m.views v u x no_view n,
-          get_or-set_other m.acks (place x.store v) (place (view m u).store u) c 0 (place_other x.store v (view m u).store u (made_32 m w v hv) (made_32 m w u l) n),
-        )
+    ack_far u e f = search (rules, get_or-set_other, place_other, made_32)
 
 -- step 2
 pub receive_good : (m : State) → Unbroken m → (k : ℕ) → k < m.made → (view m (number k 1)).phase ≡ 0 → Lowers m (Receive k)

@@ -1,12 +1,11 @@
 -- What a search for the lowest number tells. By induction; assumes nothing.
-use Prim.Native.Nat.{ℕ, zero, suc, ◌≤◌, ◌<◌}
-use mathlib.Core.Path.{◌≡◌, refl}
+use Prim.Native.Nat.{ℕ, zero, suc, ◌+◌, ◌≤◌, ◌<◌}
+use Rattle.std.specs.Prelude.{find, unwrap_or}
+use Rattle.std.specs.List.{range_with_len}
+use mathlib.Core.Path.{◌≡◌}
 use mathlib.Core.Bool.{Bool, true, false}
 use native.Mathlib.Omega.{arith}
-use native.Mathlib.Decide.{ℕ_discrete}
-use lib.Dec.{eqb}
-use borrow.Author.Tests.{eqb-true, eqb-false}
-use Rattle.protocol.specs.Words.{pick}
+use Rattle.std.proofs.Common.{rules}
 use Rattle.protocol.specs.Drain.{lowest}
 
 -- i is below n and p holds of it, or it is n and none below has p
@@ -15,21 +14,20 @@ pub record Found (n : ℕ) (p : ℕ → Bool) (i : ℕ) : Type 0 where
   pub holds : i < n → p i ≡ true
   pub none : n ≤ i → (j : ℕ) → j < n → p j ≡ false
 
+-- the same of the n numbers from a on
+record FoundFrom (a n : ℕ) (p : ℕ → Bool) (i : ℕ) : Type 0 where
+  above : a ≤ i
+  below : i ≤ a + n
+  holds : i < a + n → p i ≡ true
+  none : (j : ℕ) → a ≤ j → j < i → p j ≡ false
+
+found_from : (a n end : ℕ) (p : ℕ → Bool) → end ≡ a + n → FoundFrom a n p (unwrap_or (find p (range_with_len a n)) end)
+found_from a zero end p e =
+    record { above = omega arith; below = omega arith; holds = λ h. absurd (omega arith); none = λ j l h. absurd (omega arith) }
+found_from a (suc n) end p e = search (rules, found_from (a + 1) n end p (omega arith))
+
 pub finds : (n : ℕ) (p : ℕ → Bool) → Found n p (lowest n p)
 unfolding lowest
-finds zero p = record { below = omega arith; holds = λ h. absurd (omega arith); none = λ h j l. absurd (omega arith) }
-finds (suc n) p = go (finds n p) (eqb (lowest n p) n) refl (p n) refl
-  where
-    last : p n ≡ false → ((j : ℕ) → j < n → p j ≡ false) → (j : ℕ) → j < suc n → Dec (j ≡ n) → p j ≡ false
-    last d f j l (yes y) = rw y d
-    last d f j l (no y) = f j (omega arith)
-
-    go : Found n p (lowest n p) → (b : Bool) → eqb (lowest n p) n ≡ b → (c : Bool) → p n ≡ c
-        → Found (suc n) p (pick b (pick c n (suc n)) (lowest n p))
-    go f true e true d = record { below = omega arith; holds = λ h. d; none = λ h j l. absurd (omega arith) }
-    go f true e false d =
-        let q = eqb-true (lowest n p) n e in
-        record { below = omega arith; holds = λ h. absurd (omega arith); none = λ h j l. last d (f.none (omega arith)) j l (ℕ_discrete j n) }
-    go f false e c d =
-        let q : lowest n p < n = omega (arith, f.below, eqb-false (lowest n p) n e) in
-        record { below = omega arith; holds = λ h. f.holds q; none = λ h j l. absurd (omega arith) }
+finds n p =
+    let f = found_from 0 n n p (omega arith) in
+    record { below = omega (arith, f.below); holds = λ h. f.holds (omega arith); none = λ h j l. f.none j (omega arith) (omega arith) }

@@ -1,13 +1,14 @@
 -- A checkpoint of a store raises the steps left of no interaction: an answer that was owed is in flight. It lowers those of one whose
 -- head waits for the ack that its store owes, or whose entry waits for the uack that its destination owes. Assumes nothing.
 use Prim.Native.Nat.{ℕ, ◌≤◌, ◌<◌}
-use mathlib.Core.Path.{◌≡◌, refl}
+use mathlib.Core.Path.{◌≡◌}
 use mathlib.Core.Bool.{Bool, true, false, ◌&&◌, ◌||◌, not}
 use native.Mathlib.Omega.{arith}
 use lib.Dec.{eqb}
+use Rattle.std.proofs.Common.{rules}
 use Rattle.protocol.specs.Words.{pick}
 use Rattle.protocol.specs.declared.Status.{Status}
-use Rattle.protocol.specs.declared.Status.TheVariants.{Nothing, ToSend, Waiting, Done}
+use Rattle.protocol.specs.declared.Status.TheVariants.{Waiting}
 use Rattle.drains.proofs.StepsLeft.{Seen, seen, job_left, repair_to_come, has_entry, entry_left, coordinator_left, own_left, steps_left}
 
 -- what the drain sees of a view after a checkpoint: x says that it was of the view's store, y that it was of its entry's destination
@@ -18,11 +19,7 @@ noted x y s =
     (pick y (s.uack || s.uack_owed) s.uack) (pick y false s.uack_owed) s.update
 
 same_to_come : (x : Bool) (p5 c r p3 a o s : Bool) → pick p5 r (c || (p3 && not (pick x (a || o) a) && not (pick x false o) && not s)) ≡ pick p5 r (c || (p3 && not a && not o && not s))
-same_to_come false p5 c r p3 a o s = refl
-same_to_come true p5 c r false a o s = refl
-same_to_come true p5 c r true true o s = refl
-same_to_come true p5 c r true false true s = refl
-same_to_come true p5 c r true false false s = refl
+same_to_come x p5 c r p3 a o s = search rules
 
 to_come_noted : (x y : Bool) (s : Seen) → repair_to_come (noted x y s) ≡ repair_to_come s
 unfolding repair_to_come
@@ -35,25 +32,10 @@ answer_noted false false r = omega arith
 
 job_noted : (x y : Bool) (s : Seen) → job_left (noted x y s) ≤ job_left s
 unfolding job_left
-job_noted false y s = omega arith
-job_noted true y s = go (eqb s.phase 0) (eqb s.phase 1) (eqb s.phase 2) (eqb s.phase 3)
-  where
-    go : (b c d e : Bool) → pick b 7 (pick c 6 (pick d 5 (pick e (pick (s.ack || s.ack_owed) 2 (pick false 3 (pick s.sent 4 6))) (pick (eqb s.phase 4) 1 0))))
-        ≤ pick b 7 (pick c 6 (pick d 5 (pick e (pick s.ack 2 (pick s.ack_owed 3 (pick s.sent 4 6))) (pick (eqb s.phase 4) 1 0))))
-    go true c d e = omega arith
-    go false true d e = omega arith
-    go false false true e = omega arith
-    go false false false true = answer_noted s.ack s.ack_owed s.sent
-    go false false false false = omega arith
+job_noted x y s = search (rules, answer_noted)
 
 entry_noted : (y : Bool) (q : Status) (u e d : Bool) → entry_left q (pick y (u || e) u) (pick y false e) d ≤ entry_left q u e d
-entry_noted false q u e d = omega arith
-entry_noted true Nothing u e d = omega arith
-entry_noted true ToSend u e d = omega arith
-entry_noted true Waiting true e d = omega arith
-entry_noted true Waiting false true d = omega arith
-entry_noted true Waiting false false d = omega arith
-entry_noted true Done u e d = omega arith
+entry_noted y q u e d = search rules
 
 own_noted : (x y : Bool) (s : Seen) → own_left (noted x y s) ≤ own_left s
 own_noted x y s = entry_noted y s.status s.uack s.uack_owed s.update

@@ -7,10 +7,11 @@ use mathlib.Core.List.{List}
 use lib.Dec.{eqb}
 use lib.ListN.{length, get_or, set}
 use borrow.Author.Tests.{eq-eqb, ne_eqb}
+use Rattle.std.proofs.lemmas.Bool.{or_right}
+use Rattle.std.proofs.Math.Bool.{or-false}
 use Rattle.protocol.specs.Words.{bit, joined}
 use Rattle.protocol.specs.Slots.{no_store}
 use Rattle.protocol.specs.declared.Store.{Store}
-use Rattle.unbroken.proofs.Laws.Tests.{or_none, or_second}
 use Rattle.unbroken.proofs.Laws.Bits.{joined_bit}
 use Rattle.unbroken.proofs.Shelves.{in_set, shelf_left, shelf_same}
 
@@ -20,7 +21,7 @@ module _ (l : List Store) (p v : ℕ) (x : Store) (f : Store → ℕ) (e : f x �
   joins u = ap (λ (w : ℕ). bit w u) e ∙ joined_bit (f (get_or l p no_store)) v u
 
   pub owing_now : length l ≡ 8 → p < 8 → in_set f (set l p x) p v ≡ true
-  owing_now long hp = ap (λ (s : Store). bit (f s) v) (shelf_same l p x long hp) ∙ joins v ∙ or_second (in_set f l p v) (eqb v v) (eq-eqb v v refl)
+  owing_now long hp = ap (λ (s : Store). bit (f s) v) (shelf_same l p x long hp) ∙ joins v ∙ or_right (in_set f l p v) (eqb v v) (eq-eqb v v refl)
 
   pub owing_far : (q u : ℕ) → u ≢ v → in_set f (set l p x) q u ≡ in_set f l q u
-  owing_far q u n = shelf_left l p x (λ (s : Store). bit (f s) u) (joins u ∙ ap (λ (b : Bool). in_set f l p u || b) (ne_eqb v u (λ d. n (sym d))) ∙ or_none (in_set f l p u)) q
+  owing_far q u n = shelf_left l p x (λ (s : Store). bit (f s) u) (joins u ∙ ap (λ (b : Bool). in_set f l p u || b) (ne_eqb v u (λ d. n (sym d))) ∙ or-false (in_set f l p u)) q

@@ -8,6 +8,7 @@ use native.Mathlib.Omega.{arith}
 use native.Mathlib.Decide.{ℕ_discrete, dec_lt}
 use lib.Dec.{eqb}
 use borrow.Author.Tests.{ne_eqb, eqb-false}
+use Rattle.std.proofs.Common.{rules}
 use Rattle.protocol.specs.Words.{bit}
 use Rattle.protocol.specs.Setup.{stores_in}
 use Rattle.unbroken.specs.Unbroken.{LegalActor}
@@ -54,8 +55,4 @@ module _ (stores home l p : ℕ) (legal : LegalActor stores home l) where
       go q n (no h) = rw (none_above l stores q legal.list_in (omega arith))
 
   pub spare_there : lowest stores other < stores
-  spare_there = go (dec_lt (lowest stores other) stores)
-    where
-      go : Dec (lowest stores other < stores) → lowest stores other < stores
-      go (yes h) = h
-      go (no h) = absurd (omega (arith, legal.two_listed, all_one ((finds stores other).none (omega arith))))
+  spare_there = search (rules, all_one, finds)

@@ -1,13 +1,13 @@
 -- The steps that a drain has left, at most, for an interaction: each of its steps lowers the number, which is never above 22.
 -- By cases on what the drain sees of the view that the step is about; assumes nothing.
 use Prim.Native.Nat.{ℕ, ◌+◌, ◌*◌, ◌≤◌, ◌<◌}
-use mathlib.Core.Path.{◌≡◌, refl}
+use mathlib.Core.Path.{◌≡◌}
 use mathlib.Core.Bool.{Bool, true, false, ◌&&◌, ◌||◌, not}
 use mathlib.Core.Logic.{◌≢◌}
 use native.Mathlib.Omega.{arith}
-use native.Mathlib.Decide.{ℕ_discrete}
 use lib.Dec.{eqb}
 use borrow.Author.Tests.{ne_eqb}
+use Rattle.std.proofs.Common.{rules}
 use Rattle.protocol.specs.Words.{pick, one}
 use Rattle.protocol.specs.Slots.{status_number}
 use Rattle.protocol.specs.declared.Status.{Status}
@@ -81,10 +81,7 @@ steps_left s t =
 -- it is one number for both views
 coordinator_either : (f g h i : Bool) (x y : ℕ) → coordinator_left f g h i x y ≡ coordinator_left g f i h y x
 unfolding coordinator_left
-coordinator_either true true h i x y = omega arith
-coordinator_either true false h i x y = omega arith
-coordinator_either false true h i x y = omega arith
-coordinator_either false false h i x y = omega arith
+coordinator_either f g h i x y = search rules
 
 pub left_either : (s t : Seen) → steps_left s t ≡ steps_left t s
 unfolding steps_left
@@ -105,12 +102,7 @@ module _ (t : Seen) (p : Bool) (s : Status) (u e d : Bool) where
 
   pub send_record_lowers : (c a o r : Bool) → steps_left (seen 3 c p s a o true u e d) t < steps_left (seen 2 c p s a o r u e d) t
   unfolding steps_left
-  send_record_lowers true true o r = omega arith
-  send_record_lowers true false true r = omega arith
-  send_record_lowers true false false r = omega arith
-  send_record_lowers false true o r = omega arith
-  send_record_lowers false false true r = omega arith
-  send_record_lowers false false false r = omega arith
+  send_record_lowers c a o r = search rules
 
   pub timeout_lowers : (c a o r : Bool) → steps_left (seen 2 true p s a o r u e d) t < steps_left (seen 3 c p s false false false u e d) t
   unfolding steps_left
@@ -156,22 +148,12 @@ module _ (t : Seen) (none : repair_to_come t ≡ false) (c a o r : Bool) where
 module _ (c a o r u e d x y z : Bool) (s : Status) (n : ℕ) (g f i h j k q l : Bool) where
   pub repair_lowers : steps_left (seen 5 c false ToSend a o r x y z) (seen n g f Nothing i h j k q l) < steps_left (seen 5 c true s a o r u e d) (seen n g f Nothing i h j k q l)
   unfolding steps_left
-  repair_lowers = go (repair_to_come (seen n g f Nothing i h j k q l)) refl
-    where
-      go : (b : Bool) → repair_to_come (seen n g f Nothing i h j k q l) ≡ b
-          → steps_left (seen 5 c false ToSend a o r x y z) (seen n g f Nothing i h j k q l) < steps_left (seen 5 c true s a o r u e d) (seen n g f Nothing i h j k q l)
-      go true w = rw w (omega arith)
-      go false w = rw w (omega arith)
+  repair_lowers = search rules
 
   pub second_repair_lowers : (t : Status) (v w m : Bool) → has_entry t ≡ true
       → steps_left (seen 5 c false ToSend a o r x y z) (seen n g f ToSend i h j v w m) < steps_left (seen 5 c true s a o r u e d) (seen n g f t i h j k q l)
   unfolding steps_left
-  second_repair_lowers t v w m has = go (repair_to_come (seen n g f t i h j k q l)) refl
-    where
-      go : (b : Bool) → repair_to_come (seen n g f t i h j k q l) ≡ b
-          → steps_left (seen 5 c false ToSend a o r x y z) (seen n g f ToSend i h j v w m) < steps_left (seen 5 c true s a o r u e d) (seen n g f t i h j k q l)
-      go true p = rw p (omega arith)
-      go false p = rw (p, has) (omega arith)
+  second_repair_lowers t v w m e = search rules
 
 -- At most 22, eleven for each view, where only a settled view has an entry and one in phase 0 has not changed.
 one_most : (b : Bool) → one b ≤ 1
@@ -179,23 +161,10 @@ one_most true = omega arith
 one_most false = omega arith
 
 entry_most : (s : Status) (u e d : Bool) → entry_left s u e d ≤ 5
-entry_most Nothing u e d = omega arith
-entry_most ToSend u e d = omega arith
-entry_most Waiting true e d = omega arith
-entry_most Waiting false true d = omega arith
-entry_most Waiting false false true = omega arith
-entry_most Waiting false false false = omega arith
-entry_most Done u e d = omega arith
+entry_most s u e d = search rules
 
 started_most : (b c d e a o r : Bool) → pick b 6 (pick c 5 (pick d (pick a 2 (pick o 3 (pick r 4 6))) (pick e 1 0))) ≤ 6
-started_most true c d e a o r = omega arith
-started_most false true d e a o r = omega arith
-started_most false false true e true o r = omega arith
-started_most false false true e false true r = omega arith
-started_most false false true e false false true = omega arith
-started_most false false true e false false false = omega arith
-started_most false false false true a o r = omega arith
-started_most false false false false a o r = omega arith
+started_most b c d e a o r = search rules
 
 job_most : (s : Seen) → s.phase ≢ 0 → job_left s ≤ 6
 unfolding job_left
@@ -207,25 +176,11 @@ pub record Regular (s : Seen) : Type 0 where
 
 repaired_most : (s : Seen) → Regular s → job_left s + one (repair_to_come s) + 4 * one (repair_to_come s || has_entry s.status) ≤ 11
 unfolding job_left repair_to_come
-repaired_most s w = go (ℕ_discrete s.phase 0)
-  where
-    go : Dec (s.phase ≡ 0) → job_left s + one (repair_to_come s) + 4 * one (repair_to_come s || has_entry s.status) ≤ 11
-    go (yes e) = rw (e, w.fresh e) (omega (arith, one_most (has_entry s.status)))
-    go (no n) = omega (arith, job_most s n, one_most (repair_to_come s), one_most (repair_to_come s || has_entry s.status))
+repaired_most s e = search (rules, one_most, job_most)
 
 entered_most : (s : Seen) → Regular s → job_left s + own_left s ≤ 11
 unfolding job_left
-entered_most s w = go (ℕ_discrete s.phase 0)
-  where
-    only : (q : Status) → s.phase ≡ 0 → (has_entry q ≡ true → s.phase ≡ 5) → entry_left q s.uack s.uack_owed s.update ≤ 4
-    only Nothing e h = omega arith
-    only ToSend e h = omega arith
-    only Waiting e h = absurd (omega (arith, h refl))
-    only Done e h = omega arith
-
-    go : Dec (s.phase ≡ 0) → job_left s + own_left s ≤ 11
-    go (yes e) = rw e (omega (arith, only s.status e w.entered))
-    go (no n) = omega (arith, job_most s n, entry_most s.status s.uack s.uack_owed s.update)
+entered_most s e = search (rules, job_most, entry_most)
 
 add_up : (f g h i : Bool) (x y j k : ℕ) → j + one f + 4 * one (f || h) ≤ 11 → k + one g + 4 * one (g || i) ≤ 11 → j + x ≤ 11 → k + y ≤ 11
     → j + k + coordinator_left f g h i x y ≤ 22

@@ -7,6 +7,7 @@ use mathlib.Core.Bool.{not}
 use native.Mathlib.Omega.{arith}
 use native.Mathlib.Decide.{ℕ_discrete}
 use lib.Dec.{eqb}
+use Rattle.std.proofs.Common.{rules}
 use Rattle.protocol.specs.Slots.{number, view, repair, entry, record_copies, ack_copies, update_copies, uack_copies, owes_ack, owes_uack}
 use Rattle.protocol.specs.declared.State.{State}
 use Rattle.protocol.specs.Drain.{key_of, role_of}
@@ -75,14 +76,7 @@ module _ (m n : State) (made : n.made ≡ m.made) (v : ℕ) (hv : v < m.made * 2
 
   -- .. since all other views look as before
   pub total_less : ((u : ℕ) → u < m.made * 2 → u ≢ v → u ≢ opposite v → seen_of n u ≡ seen_of m u) → total n < total m
-  total_less far = total_lower rest
-    where
-      rest : (j : ℕ) → j < m.made → j ≢ v / 2 → left_of n j ≤ left_of m j
-      rest j l d =
-          rw (
-            far (number j 0) (omega arith) (λ e. d (omega arith)) (λ e. d (omega arith)),
-            far (number j 1) (omega arith) (λ e. d (omega arith)) (λ e. d (omega arith)),
-          ) (omega arith)
+  total_less e = search (rules, total_lower)
 
 -- a step that changes what the drain sees of one view
 module _ (m n : State) (made : n.made ≡ m.made) (v : ℕ) (hv : v < m.made * 2) (s t : Seen) (before : seen_of m v ≡ s) (after : seen_of n v ≡ t)

@@ -1,32 +1,35 @@
 -- What the drain does next: a step that is taken and leaves one step less, or nothing, and then all interactions are closed.
 -- By cases on what it looks for, in its order; assumes nothing.
+use Rattle.std.specs.Prelude.{Some, None, Option}
 use Prim.Native.Nat.{ℕ, ◌*◌, ◌/◌, ◌%◌, ◌≤◌, ◌<◌}
 use mathlib.Core.Path.{◌≡◌, refl}
 use mathlib.Core.Logic.{◌≢◌}
 use mathlib.Core.Bool.{Bool, true, false, ◌&&◌, not}
 use native.Mathlib.Omega.{arith}
 use native.Mathlib.Decide.{ℕ_discrete, dec_lt}
-use lib.Dec.{eqb, ltb, leb}
+use lib.Dec.{eqb, ltb}
 use lib.ListN.{get_or}
 use borrow.Author.Tests.{lt-leb, ltb-true, ltb-false, eqb-true, eqb-false, not-true, not-false}
+use Rattle.std.proofs.lemmas.Bool.{and_from, and_parts, or_parts}
+use Rattle.std.proofs.Common.{rules}
 use Rattle.protocol.specs.Words.{pick, bit, times}
-use Rattle.protocol.specs.Slots.{number, no_store, status_number, is_up, list, queue, view, repair, entry, record_copies, ack_copies, update_copies, uack_copies, owes_ack, owes_uack}
+use Rattle.protocol.specs.Slots.{number, status_number, is_up, list, queue, view, repair, entry, record_copies, ack_copies, update_copies, uack_copies, owes_ack, owes_uack}
 use Rattle.unbroken.specs.Unbroken.{Unbroken}
-use Rattle.protocol.specs.Closed.{closed_of, rests_of}
+use Rattle.protocol.specs.Closed.{closed_of}
+use Rattle.protocol.specs.declared.Step.{Step}
 use Rattle.protocol.specs.declared.State.{State}
-use Rattle.unbroken.proofs.Laws.Tests.{and_left, and_right, and_both, or_else, nor_left, nor_right}
+use Rattle.unbroken.proofs.Laws.Tests.{or_else}
 use Rattle.unbroken.proofs.Laws.Every.{all_at}
 use Rattle.unbroken.proofs.Laws.Room.{stores8, actors8, legal_actor_holds, made_view_holds, made_32, sender_made_holds}
 use Rattle.protocol.specs.Rule.{head}
 use Rattle.protocol.specs.declared.Step.TheVariants.{Receive, PreCheck, SendRecord, Timeout, TakeRecord, TakeAck, PostCheck, TakeRepair, SendUpdate, TakeUpdate, TakeUack, Expire, Checkpoint}
-use Rattle.protocol.specs.Drain.{key_of, role_of, unreceived, busy, spare, job_step, repair_due, unfinished, entry_due, entry_step, turn_of, up_in, all_up}
-use Rattle.protocol.specs.declared.Turn.{Turn}
-use Rattle.protocol.specs.declared.Turn.TheVariants.{Take, Rest}
+use Rattle.protocol.specs.Drain.{key_of, role_of, unreceived, busy, spare, job_step, repair_due, unfinished, entry_due, entry_step, turn_of, all_up}
 use Rattle.drains.proofs.Lowest.{finds}
 use Rattle.drains.proofs.StepsLeft.{repair_to_come}
 use Rattle.drains.proofs.Total.{seen_of, opposite}
 use Rattle.drains.proofs.Jobs.{Lowers, receive_good, pre_check_good, send_record_good, post_check_good, timeout_good, take_ack_good, take_record_good}
-use Rattle.drains.proofs.Entries.{to_send_holds, waiting, take_repair_good, send_update_good, take_uack_good, take_update_good, expire_good}
+use Rattle.keeps.proofs.Conditions.{to_send_holds, waiting}
+use Rattle.drains.proofs.Entries.{take_repair_good, send_update_good, take_uack_good, take_update_good, expire_good}
 use Rattle.drains.proofs.Checkpoints.{ack_owed_good, uack_owed_good}
 use Rattle.drains.proofs.Spare.{spare_there}
 
@@ -36,9 +39,9 @@ pub record AtRest (m : State) : Type 0 where
   pub idle : (v : ℕ) → v < m.made * 2 → (repair m v).flying ≡ false
   pub finished : (v : ℕ) → v < m.made * 2 → unfinished m v ≡ false
 
-abbrev pub Does : State → Turn → Type 0
-Does m (Take s) = Lowers m s
-Does m Rest = AtRest m
+abbrev pub Does : State → Option Step → Type 0
+Does m (Some s) = Lowers m s
+Does m None = AtRest m
 
 module _ (m : State) (w : Unbroken m) where
   -- where the drain has received all, every view made is in a phase
@@ -70,10 +73,7 @@ module _ (m : State) (w : Unbroken m) where
 
   module _ (up : all_up m ≡ true) where
     is_up_at : (p : ℕ) → p < m.stores → is_up m p ≡ true
-    is_up_at p h =
-        or_else (leb m.stores p) (is_up m p)
-        (all_at (up_in m.stores) m.shelves no_store up p (omega (arith, stores8 m w, w.sized.shelves)))
-        (lt-leb m.stores p h)
+    is_up_at p e = search (rules, or_else, all_at, stores8, lt-leb)
 
     -- (b) the head of a queue
     module _ (a : ℕ) (ha : a < m.actors) (busy : (queue m a).len ≢ 0) where
@@ -125,8 +125,8 @@ module _ (m : State) (w : Unbroken m) where
           go false false false true false false eb ec ed ee eo ef = take_record_good m w a ha busy hv few (third eb ec ed) (is_up_at p at) ee eo ef
           go false false false true false true eb ec ed ee eo ef =
               timeout_good m w a ha busy hv few (third eb ec ed) (spare m a) there
-              (and_left (bit (list m a) (spare m a)) (not (eqb p (spare m a))) chosen)
-              (eqb-false p (spare m a) (not-true (eqb p (spare m a)) (and_right (bit (list m a) (spare m a)) (not (eqb p (spare m a))) chosen)))
+              (and_parts (bit (list m a) (spare m a)) (not (eqb p (spare m a))) chosen).0
+              (eqb-false p (spare m a) (not-true (eqb p (spare m a)) (and_parts (bit (list m a) (spare m a)) (not (eqb p (spare m a))) chosen).1))
               ee eo ef
 
     -- (d) an entry, when all views are settled and no repair is in flight
@@ -176,18 +176,18 @@ module _ (m : State) (w : Unbroken m) where
               expire_good m w v hv (settled v hv) (idle v hv) nothing_to_come (at' (omega arith)) (stores8 m w) (waiting (entry m v).status h) ec eo ed
 
     -- the turns from (d) on, and from (c) on
-    abbrev entry_turn : Turn
-    entry_turn = pick (ltb (entry_due m) (m.made * 2)) (Take (entry_step m (entry_due m))) Rest
+    abbrev entry_turn : Option Step
+    entry_turn = pick (ltb (entry_due m) (m.made * 2)) (Some (entry_step m (entry_due m))) None
 
-    abbrev repair_turn : Turn
-    repair_turn = pick (ltb (repair_due m) (m.made * 2)) (Take (TakeRepair (key_of (repair_due m)) (role_of (repair_due m)))) entry_turn
+    abbrev repair_turn : Option Step
+    repair_turn = pick (ltb (repair_due m) (m.made * 2)) (Some (TakeRepair (key_of (repair_due m)) (role_of (repair_due m)))) entry_turn
 
     pub does : Does m (turn_of m)
     unfolding turn_of
     does = first (ltb (unreceived m) m.made) refl
       where
         fourth : ((v : ℕ) → v < m.made * 2 → (view m v).phase ≡ 5) → ((v : ℕ) → v < m.made * 2 → (repair m v).flying ≡ false)
-            → (b : Bool) → ltb (entry_due m) (m.made * 2) ≡ b → Does m (pick b (Take (entry_step m (entry_due m))) Rest)
+            → (b : Bool) → ltb (entry_due m) (m.made * 2) ≡ b → Does m (pick b (Some (entry_step m (entry_due m))) None)
         fourth settled idle true e =
             let l = ltb-true (entry_due m) (m.made * 2) e in
             entry_lowers settled idle (entry_due m) l ((finds (m.made * 2) (unfinished m)).holds l)
@@ -195,7 +195,7 @@ module _ (m : State) (w : Unbroken m) where
             record { settled = settled; idle = idle; finished = (finds (m.made * 2) (unfinished m)).none (ltb-false (entry_due m) (m.made * 2) e) }
 
         third : ((v : ℕ) → v < m.made * 2 → (view m v).phase ≡ 5) → (b : Bool) → ltb (repair_due m) (m.made * 2) ≡ b
-            → Does m (pick b (Take (TakeRepair (key_of (repair_due m)) (role_of (repair_due m)))) entry_turn)
+            → Does m (pick b (Some (TakeRepair (key_of (repair_due m)) (role_of (repair_due m)))) entry_turn)
         third settled true e =
             let l = ltb-true (repair_due m) (m.made * 2) e in
             take_repair_good m w (repair_due m) l ((finds (m.made * 2) (λ v. (repair m v).flying)).holds l)
@@ -203,7 +203,7 @@ module _ (m : State) (w : Unbroken m) where
             fourth settled ((finds (m.made * 2) (λ v. (repair m v).flying)).none (ltb-false (repair_due m) (m.made * 2) e)) (ltb (entry_due m) (m.made * 2)) refl
 
         second : ((v : ℕ) → v < m.made * 2 → 1 ≤ (view m v).phase) → (b : Bool) → ltb (busy m) m.actors ≡ b
-            → Does m (pick b (Take (job_step m (busy m))) repair_turn)
+            → Does m (pick b (Some (job_step m (busy m))) repair_turn)
         second begun true e =
             let l = ltb-true (busy m) m.actors e in
             let some = (finds m.actors (λ a. not (eqb (queue m a).len 0))).holds l in
@@ -213,7 +213,7 @@ module _ (m : State) (w : Unbroken m) where
             third (all_settled begun empty) (ltb (repair_due m) (m.made * 2)) refl
 
         first : (b : Bool) → ltb (unreceived m) m.made ≡ b
-            → Does m (pick b (Take (Receive (unreceived m))) (pick (ltb (busy m) m.actors) (Take (job_step m (busy m))) repair_turn))
+            → Does m (pick b (Some (Receive (unreceived m))) (pick (ltb (busy m) m.actors) (Some (job_step m (busy m))) repair_turn))
         first true e =
             let l = ltb-true (unreceived m) m.made e in
             let h = (finds m.made (λ k. eqb (view m (number k 1)).phase 0)).holds l in
@@ -225,9 +225,4 @@ module _ (m : State) (w : Unbroken m) where
 -- a machine at rest has every interaction closed
 pub rest_closes : (m : State) → AtRest m → (k : ℕ) → k < m.made → closed_of m k ≡ true
 unfolding closed_of
-rest_closes m r k h = and_both (rests_of m (number k 0)) (rests_of m (number k 1)) (rests (number k 0) (omega arith)) (rests (number k 1) (omega arith))
-  where
-    rests : (v : ℕ) → v < m.made * 2 → rests_of m v ≡ true
-    rests v l =
-        let n = status_number (entry m v).status in
-        rw (r.settled v l, r.idle v l, nor_left (eqb n 1) (eqb n 2) (r.finished v l), nor_right (eqb n 1) (eqb n 2) (r.finished v l))
+rest_closes m e k f = search (rules, and_from, or_parts)

@@ -1,6 +1,6 @@
 -- The laws of the drain, for every unbroken machine with all stores up: it takes each of its steps, it ends because nothing
 -- applies and within 22 steps for an interaction, it closes every interaction made, and a second drain has nothing to do.
-use Rattle.std.specs.Prelude.{ℕ, ◌*◌, ◌≤◌, ◌<◌, ◌≡◌, true, false, List, length, replicate}
+use Rattle.std.specs.Prelude.{ℕ, ◌*◌, ◌≤◌, ◌<◌, ◌≡◌, true, false, List, length, replicate, Some, None}
 use Rattle.protocol.specs.Setup.{answered}
 use Rattle.protocol.specs.Broken.{broken_of}
 use Rattle.protocol.specs.Closed.{closed_of}
@@ -9,7 +9,6 @@ use Rattle.protocol.specs.Step.{number_of, after_of, step_of}
 use Rattle.protocol.specs.declared.Step.{Step}
 use Rattle.protocol.specs.Run.{ran, answers}
 use Rattle.protocol.specs.Drain.{turn_of, course, all_up, drain_of}
-use Rattle.protocol.specs.declared.Turn.TheVariants.{Take, Rest}
 
 -- what the drain asks of a machine
 pub record Drainable (m : State) : Type 0 where
@@ -24,7 +23,7 @@ pub record StepTaken (m : State) (s : Step) : Type 0 where
   pub made : (after_of m s).made ≡ m.made
 
 abbrev pub TakesEachStep : Type 0
-TakesEachStep = (m : State) (s : Step) → Drainable m → turn_of m ≡ Take s → StepTaken m s
+TakesEachStep = (m : State) (s : Step) → Drainable m → turn_of m ≡ Some s → StepTaken m s
 
 -- the drain's steps, and the machine after them
 abbrev pub steps_of : State → List Step
@@ -37,7 +36,7 @@ pub record Ends (m : State) : Type 0 where
   -- the drain is taken, and its count is that of its steps
   pub result : drain_of m ≡ record { state = end_of m; answer = 0; count = length (steps_of m) }
   -- it ends because nothing applies, and not because of the stop: with more room it would do the same
-  pub rests : turn_of (end_of m) ≡ Rest
+  pub rests : turn_of (end_of m) ≡ None
   pub unstopped : (n : ℕ) → m.made * 22 ≤ n → course n m ≡ course (m.made * 22) m
   -- at most 22 steps for each interaction
   pub count : length (steps_of m) ≤ m.made * 22

@@ -1,22 +1,17 @@
 -- In a run a view is acknowledged at most once, and exactly by the store that its record names from then on. Assumes nothing.
 use mathlib.Core.Path.{◌≡◌, refl, sym, ap, ◌∙◌, subst}
 use mathlib.Core.Logic.{◌≢◌}
-use mathlib.Core.Bool.{Bool, true, false, ◌&&◌, not}
 use mathlib.Core.List.{List, [], ◌∷◌}
 use Prim.Native.Nat.{ℕ, ◌≤◌, ◌<◌}
 use native.Mathlib.Omega.{arith}
-use native.Mathlib.Decide.{ℕ_discrete, dec_lt}
 use borrow.Author.Tests.{eq-eqb, ne_eqb}
-use lib.Dec.{eqb}
-use lib.ListN.{length}
-use Rattle.protocol.specs.Words.{pick}
+use Rattle.std.proofs.Common.{rules}
 use Rattle.protocol.specs.Slots.{number, view}
 use Rattle.protocol.specs.declared.State.{State}
 use Rattle.protocol.specs.declared.View.{View}
 use Rattle.protocol.specs.Step.{step_of}
 use Rattle.protocol.specs.declared.Step.{Step}
 use Rattle.protocol.specs.declared.Step.TheVariants.{TakeAck}
-use Rattle.protocol.specs.Kinds.{kind, field}
 use Rattle.protocol.specs.Run.{ran}
 use Rattle.guarantees.specs.Acknowledged.{accepted_into, accepted, acknowledged}
 use Rattle.guarantees.proofs.Turns.{Turn, stays, received, checked, sends, timed, acked, settled}
@@ -26,39 +21,11 @@ use Rattle.guarantees.proofs.Steps.{Move, turns_to, unmade, step_reached, moves}
 -- a step that leaves the view out of phase 4, or found it there, doesn't accept
 not_accepted : (m : State) (s : Step) (v : ℕ) → ((view m v).phase ≢ 4 → (view (step_of m s).state v).phase ≢ 4) → accepted m s v ≡ []
 unfolding accepted_into
-not_accepted m s v h = go (ℕ_discrete (view m v).phase 4) (eqb (kind s) 7) (eqb (number (field s 2) (field s 3)) v)
-  where
-    before : Bool
-    before = eqb (view m v).phase 4
-
-    now : Bool
-    now = eqb (view (step_of m s).state v).phase 4
-
-    go : Dec ((view m v).phase ≡ 4) → (k a : Bool) → pick k (pick (a && not before && now) (field s 1 ∷ []) []) [] ≡ []
-    go d false a = refl
-    go d true false = refl
-    go (yes e) true true = rw (eq-eqb (view m v).phase 4 e)
-    go (no n) true true = rw (ne_eqb (view m v).phase 4 n, ne_eqb (view (step_of m s).state v).phase 4 (h n))
+not_accepted m s v e = search (rules, eq-eqb, ne_eqb)
 
 is_accepted : (m : State) (p k r v : ℕ) → v ≡ number k r → (view m v).phase ≢ 4 → (view (step_of m (TakeAck p k r)).state v).phase ≡ 4 → accepted m (TakeAck p k r) v ≡ p ∷ []
 unfolding accepted_into
 is_accepted m p k r v e n h = rw (eq-eqb (number k r) v (sym e), ne_eqb (view m v).phase 4 n, eq-eqb (view (step_of m (TakeAck p k r)).state v).phase 4 h)
-
--- what an accepting step was
-pub record Accepts (m : State) (s : Step) (v p : ℕ) : Type 0 where
-  pub before : (view m v).phase ≢ 4
-  pub behind : (view (step_of m s).state v).phase ≡ 4
-
-pub accepting : (m : State) (s : Step) (v p : ℕ) → accepted m s v ≡ p ∷ [] → Accepts m s v p
-accepting m s v p e = go (ℕ_discrete (view m v).phase 4) (ℕ_discrete (view (step_of m s).state v).phase 4)
-  where
-    nothing : accepted m s v ≡ [] → Accepts m s v p
-    nothing f = absurd (let z : ◌≡◌ {A = ℕ} 1 0 = sym (ap length e) ∙ ap length f in let y : ⊥ = omega arith in y)
-
-    go : Dec ((view m v).phase ≡ 4) → Dec ((view (step_of m s).state v).phase ≡ 4) → Accepts m s v p
-    go (yes a) b = nothing (not_accepted m s v (λ n. absurd (n a)))
-    go (no a) (yes b) = record { before = a; behind = b }
-    go (no a) (no b) = nothing (not_accepted m s v (λ n. b))
 
 -- one step: the view is past its ack, or accepts, or stays before it
 pub data Ack (m : State) (s : Step) (v : ℕ) : Type 0 where
@@ -68,14 +35,7 @@ pub data Ack (m : State) (s : Step) (v : ℕ) : Type 0 where
 
 module _ (m : State) (s : Step) (v : ℕ) where
   by_turn : (w : View) → Turn m s v w → view (step_of m s).state v ≡ w → Ack m s v
-  by_turn w stays e = go (dec_lt (view m v).phase 4)
-    where
-      same : (view (step_of m s).state v).phase ≡ (view m v).phase
-      same = ap (λ (x : View). x.phase) e
-
-      go : Dec ((view m v).phase < 4) → Ack m s v
-      go (yes l) = let g = same in yet (not_accepted m s v (λ n. rw same n)) l (omega arith)
-      go (no l) = let g = same in past (not_accepted m s v (λ n. rw same n)) (omega arith) (omega arith) (ap (λ (x : View). x.store) e)
+  by_turn w stays e = search (rules, not_accepted)
   by_turn w (received k f h) e = let g : (view (step_of m s).state v).phase ≡ 1 = ap (λ (x : View). x.phase) e in yet (not_accepted m s v (λ n z. omega arith)) (omega arith) (omega arith)
   by_turn w (checked h f) e = let g : (view (step_of m s).state v).phase ≡ 2 = ap (λ (x : View). x.phase) e in yet (not_accepted m s v (λ n z. omega arith)) (omega arith) (omega arith)
   by_turn w (sends h) e = let g : (view (step_of m s).state v).phase ≡ 3 = ap (λ (x : View). x.phase) e in yet (not_accepted m s v (λ n z. omega arith)) (omega arith) (omega arith)
@@ -83,9 +43,7 @@ module _ (m : State) (s : Step) (v : ℕ) where
   by_turn w (acked p k r f i h o) e =
       let g : (view (step_of m s).state v).phase ≡ 4 = ap (λ (x : View). x.phase) e in
       now p k r f i (subst (λ (x : Step). (view (step_of m x).state v).phase ≡ 4 → accepted m x v ≡ p ∷ []) (sym f) (λ z. is_accepted m p k r v i (λ y. omega arith) z) g) h o g (ap (λ (x : View). x.store) e ∙ o)
-  by_turn w (settled h f) e =
-      let g : (view (step_of m s).state v).phase ≡ 5 = ap (λ (x : View). x.phase) e in
-      past (not_accepted m s v (λ n z. omega arith)) (omega arith) (omega arith) (ap (λ (x : View). x.store) e)
+  by_turn w (settled h f) e = search (rules, not_accepted)
 
   by_move : Move m s (step_of m s).state v → Ack m s v
   by_move (turns_to t) = by_turn (view (step_of m s).state v) t refl

@@ -10,6 +10,7 @@ use native.Mathlib.Decide.{ℕ_discrete}
 use borrow.Author.Tests.{eq-eqb, eqb-true}
 use lib.Dec.{eqb}
 use lib.ListN.{length, get_or, take}
+use Rattle.std.proofs.Common.{rules}
 use Rattle.protocol.specs.Words.{bit, one, times}
 use Rattle.protocol.specs.Slots.{number, queue, standing, view, home}
 use Rattle.unbroken.specs.Unbroken.{Unbroken}
@@ -97,68 +98,23 @@ pub record Cause (home : ℕ) (line : List ℕ) (x y j : ℕ) (effect receipt : 
 -- what a turn leaves alone
 module _ {m : State} {s : Step} {v : ℕ} where
   pub turn_actor : {w : View} → Turn m s v w → w.actor ≡ (view m v).actor
-  turn_actor stays = refl
-  turn_actor (received k e h) = ap (λ (x : ℕ). (view m x).actor) (sym e)
-  turn_actor (checked h e) = refl
-  turn_actor (sends h) = refl
-  turn_actor (timed p h) = refl
-  turn_actor (acked p k r e f h g) = refl
-  turn_actor (settled h e) = refl
+  turn_actor e = search rules
 
   pub turn_causes : {w : View} → Turn m s v w → 1 ≤ (view m v).phase → w.causes ≡ (view m v).causes
-  turn_causes stays h = refl
-  turn_causes (received k e g) h = absurd (let z : ⊥ = omega arith in z)
-  turn_causes (checked g e) h = refl
-  turn_causes (sends g) h = refl
-  turn_causes (timed p g) h = refl
-  turn_causes (acked p k r e f g i) h = refl
-  turn_causes (settled g e) h = refl
+  turn_causes e f = search rules
 
   pub turn_word : {w : View} → Turn m s v w → 1 ≤ (view m v).phase → w.word ≡ (view m v).word
-  turn_word stays h = refl
-  turn_word (received k e g) h = absurd (let z : ⊥ = omega arith in z)
-  turn_word (checked g e) h = refl
-  turn_word (sends g) h = refl
-  turn_word (timed p g) h = refl
-  turn_word (acked p k r e f g i) h = refl
-  turn_word (settled g e) h = refl
-
-  pub turn_viewlink : {w : View} → Turn m s v w → 1 ≤ (view m v).phase → w.viewlink ≡ (view m v).viewlink
-  turn_viewlink stays h = refl
-  turn_viewlink (received k e g) h = absurd (let z : ⊥ = omega arith in z)
-  turn_viewlink (checked g e) h = refl
-  turn_viewlink (sends g) h = refl
-  turn_viewlink (timed p g) h = refl
-  turn_viewlink (acked p k r e f g i) h = refl
-  turn_viewlink (settled g e) h = refl
+  turn_word e f = search rules
 
   pub turn_links : {w : View} → Turn m s v w → 2 ≤ (view m v).phase → w.links ≡ (view m v).links
-  turn_links stays h = refl
-  turn_links (received k e g) h = absurd (let z : ⊥ = omega arith in z)
-  turn_links (checked g e) h = absurd (let z : ⊥ = omega arith in z)
-  turn_links (sends g) h = refl
-  turn_links (timed p g) h = refl
-  turn_links (acked p k r e f g i) h = refl
-  turn_links (settled g e) h = refl
+  turn_links e f = search rules
 
   pub turn_made : {w : View} → Turn m s v w → 1 ≤ (view m v).phase → 1 ≤ w.phase
-  turn_made stays h = h
-  turn_made (received k e g) h = omega arith
-  turn_made (checked g e) h = omega arith
-  turn_made (sends g) h = omega arith
-  turn_made (timed p g) h = omega arith
-  turn_made (acked p k r e f g i) h = omega arith
-  turn_made (settled g e) h = omega arith
+  turn_made e f = search rules
 
   -- a settled view stays as it is
   pub turn_settled : {w : View} → Turn m s v w → (view m v).phase ≡ 5 → w ≡ view m v
-  turn_settled stays h = refl
-  turn_settled (received k e g) h = absurd (let z : ⊥ = omega arith in z)
-  turn_settled (checked g e) h = absurd (let z : ⊥ = omega arith in z)
-  turn_settled (sends g) h = absurd (let z : ⊥ = omega arith in z)
-  turn_settled (timed p g) h = absurd (let z : ⊥ = omega arith in z)
-  turn_settled (acked p k r e f g i) h = absurd (let z : ⊥ = omega arith in z)
-  turn_settled (settled g e) h = absurd (let z : ⊥ = omega arith in z)
+  turn_settled e f = search rules
 
 -- a queue that has somebody begins with its head
 stands_head : (l : List ℕ) (n : ℕ) → 0 < n → 0 < length l → (t : List ℕ) × (take n l ≡ get_or l 0 0 ∷ t)

@@ -1,9 +1,9 @@
 -- What is known of a head when its rule is taken: it is a view of this machine, and its actor's. Assumes nothing.
-use mathlib.Core.Path.{◌≡◌, refl, sym, subst}
-use mathlib.Core.Bool.{Bool, true, false, ◌&&◌}
+use mathlib.Core.Path.{◌≡◌, refl}
+use mathlib.Core.Bool.{Bool, true, false}
 use Prim.Native.Nat.{ℕ, suc, ◌*◌, ◌/◌, ◌%◌, ◌<◌}
 use native.Mathlib.Omega.{arith}
-use lib.Dec.{T}
+use Rattle.std.proofs.Common.{rules}
 use Rattle.protocol.specs.Words.{pick}
 use Rattle.protocol.specs.Slots.{queue}
 use Rattle.unbroken.specs.Unbroken.{Unbroken}
@@ -12,16 +12,9 @@ use Rattle.protocol.specs.Rule.{head, head_view}
 use Rattle.unbroken.proofs.Laws.Room.{actors8, made_view_holds}
 use Rattle.keeps.specs.Taken.{HeadIn}
 
-pub absurd_eq : {A : Type 0} → true ≡ false → A
-absurd_eq e = absurd (subst T e tt)
-
 pub pick_zero : (b : Bool) (n x : ℕ) → pick b (suc n) x ≡ 0 → (b ≡ false) × (x ≡ 0)
 pick_zero true n x e = let z : ⊥ = omega arith in absurd z
 pick_zero false n x e = (refl, e)
-
-pub and_true : (a b : Bool) → (a && b) ≡ true → (a ≡ true) × (b ≡ true)
-and_true true b e = (refl, e)
-and_true false b e = absurd_eq (sym e)
 
 -- a view's key and role
 abbrev pub key_of : ℕ → ℕ
@@ -39,13 +32,4 @@ pub record Headed (m : State) (a n : ℕ) : Type 0 where
   pub owner : (head_view m a).actor ≡ a
 
 pub headed : (m : State) → Unbroken m → (a n : ℕ) → HeadIn n m a → Headed m a n
-headed m u a n h =
-    let g = actors8 m u in
-    let b : a < 8 = omega (arith, h.actor_in) in
-    record {
-      actor = h.actor_in;
-      some = h.queued;
-      phase = h.head_phase;
-      made = made_view_holds m u (head m a) ((u.queue_at a b).stands_from 0 h.queued);
-      owner = (u.queue_at a b).stands_own 0 h.queued;
-    }
+headed m e a n f = search (rules, actors8, made_view_holds)

@@ -3,8 +3,9 @@
 use mathlib.Core.Path.{◌≡◌, refl}
 use Prim.Native.Nat.{ℕ, zero, suc, ◌+◌, ◌≤◌, ◌<◌}
 use native.Mathlib.Omega.{arith}
+use Rattle.std.proofs.Common.{rules}
 use Rattle.protocol.specs.Words.{pick}
-use lib.Dec.{eqb, eqb-suc-zero}
+use lib.Dec.{eqb}
 
 -- a view's record, its repair and its entry, as numbers (a flag is 0 or 1)
 pub record Job : Type 0 where
@@ -122,23 +123,6 @@ none {n = suc n} h = absurd (h (omega arith))
 abbrev pub filled_link : ℕ → ℕ → ℕ
 filled_link l x = pick (eqb l 0) (x + 1) l
 
-filled_some : (l x : ℕ) → 0 < filled_link l x
-filled_some zero x = omega arith
-filled_some (suc l) x = rw (eqb-suc-zero l) (omega arith)
-
-filled_kept : (l x y : ℕ) → l ≡ suc y → filled_link l x ≡ suc y
-filled_kept zero x y e = omega arith
-filled_kept (suc l) x y e = rw (eqb-suc-zero l) e
-
-filled_first : (l x : ℕ) → (0 < l → l ≡ suc x) → filled_link l x ≡ suc x
-filled_first zero x h = omega arith
-filled_first (suc l) x h = rw (eqb-suc-zero l) (h (omega arith))
-
--- owed or not
-by_note : {P : Type 0} (n : ℕ) → (0 < n → P) → (n ≡ 0 → P) → P
-by_note zero f g = g refl
-by_note (suc n) f g = f (omega arith)
-
 module _ {me ot : Job} {mc oc : Cell} {sent p : ℕ} (a : Good me mc ot oc sent p) (b : Good ot oc me mc sent p) where
   pub no_entry_holds : me.phase < 5 → me.status ≡ 0
   no_entry_holds h = none (λ n. omega (arith, a.entry_phase n))
@@ -164,11 +148,7 @@ module _ {me ot : Job} {mc oc : Cell} {sent p : ℕ} (a : Good me mc ot oc sent 
   -- 2: the receipt
   module _ (h0 : me.phase ≡ 0) (home gone : ℕ) (hh : home ≡ ot.viewlink) (hs : 1 ≤ ot.phase) where
     pub received_me : Good (received_job home sent me) mc ot oc gone p
-    received_me =
-        let e = no_entry_holds (omega arith) in let r = no_repair_holds (omega arith) in let u = no_uack e in let n = no_owed e in
-        let l : ot.status ≡ 0 → 0 < mc.link → mc.link ≡ suc sent = λ z g. absurd (omega (arith, a.unlinked h0 z)) in
-        let m : ot.status ≡ 0 → 0 < mc.saved → mc.saved ≡ suc sent = λ z g. absurd (omega (arith, a.unsaved h0 z)) in
-        search arith
+    received_me = search rules
 
     pub received_ot : Good ot oc (received_job home sent me) mc gone p
     received_ot = let e = no_entry_holds (omega arith) in search (arith, b.first_sent)
@@ -245,16 +225,10 @@ module _ {me ot : Job} {mc oc : Cell} {sent p : ℕ} (a : Good me mc ot oc sent 
   -- 6: a store takes a record
   module _ (h : 2 ≤ me.phase) where
     pub recorded_me : Good me (recorded_cell (filled_link mc.link me.viewlink) mc) ot oc sent p
-    recorded_me =
-        let x = filled_some mc.link me.viewlink in
-        let l : ot.status ≡ 0 → filled_link mc.link me.viewlink ≡ suc me.viewlink = λ e. filled_first mc.link me.viewlink (a.link_first e) in
-        search (arith, a.first, a.first_sent)
+    recorded_me = search rules
 
     pub recorded_ot : Good ot oc me (recorded_cell (filled_link mc.link me.viewlink) mc) sent p
-    recorded_ot =
-        let w : 0 < oc.owes_uack → filled_link mc.link me.viewlink ≡ suc ot.store = λ g. filled_kept mc.link me.viewlink ot.store (b.owed_wrote g) in
-        let f : 0 < ot.status → mc.saved ≡ suc ot.store → filled_link mc.link me.viewlink ≡ suc ot.store = λ e d. filled_kept mc.link me.viewlink ot.store (b.still_written e d) in
-        search (arith, b.first)
+    recorded_ot = search rules
 
   -- 11: a store takes an update
   module _ (some : 0 < me.status) where
@@ -266,13 +240,7 @@ module _ {me ot : Job} {mc oc : Cell} {sent p : ℕ} (a : Good me mc ot oc sent 
 
   -- 17: a checkpoint; x and k are the copies after it
   pub saved_me : (x y k l : ℕ) → (0 < x → mc.owes_ack ≡ 0 → 0 < mc.acks) → (0 < k → mc.owes_uack ≡ 0 → 0 < mc.uacks) → Good me (saved_cell x k mc) ot (saved_cell y l oc) sent p
-  saved_me x y k l f g =
-      let v : 0 < x → mc.held ≡ 1 = λ h. by_note mc.owes_ack (λ n. a.owed_held n) (λ z. a.still_held (a.ack_held (f h z))) in
-      let w : 0 < x → 0 < mc.link = λ h. by_note mc.owes_ack (λ n. a.owed_linked n) (λ z. a.still_linked (a.ack_linked (f h z))) in
-      let s : 0 < k → 0 < me.status = λ h. by_note mc.owes_uack (λ n. a.owed_entry n) (λ z. a.uack_entry (g h z)) in
-      let t : 0 < k → oc.link ≡ suc me.store = λ h. by_note mc.owes_uack (λ n. a.owed_wrote n) (λ z. a.still_written (a.uack_entry (g h z)) (a.wrote (g h z))) in
-      let q : me.status ≡ 3 → me.destination ≡ p → oc.link ≡ suc me.store = λ e d. a.still_written (omega arith) (a.finished e d) in
-      search (arith, a.first, a.first_sent, a.kept_held, a.kept_linked, a.still_held, a.still_linked)
+  saved_me x y k l e f = search rules
 
   -- 15: a crash
   pub thrown_me : Good me (thrown_cell mc) ot (thrown_cell oc) sent p

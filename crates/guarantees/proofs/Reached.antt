@@ -10,6 +10,7 @@ use native.Mathlib.Omega.{arith}
 use native.Mathlib.Decide.{dec_lt}
 use lib.ListN.{get_or, set, length-set}
 use lib.Seq.{get_or-set_same, get_or-set_other}
+use Rattle.std.proofs.Common.{rules}
 use Rattle.protocol.specs.Words.{bit, times}
 use Rattle.protocol.specs.Slots.{number, queue, standing, view, home, no_view, no_queue}
 use Rattle.protocol.specs.Broken.{broken_of}
@@ -113,11 +114,7 @@ module _ (m : State) (c : Reached m) where
       ∙ joined_stands (queue m from) (number m.made 0) (u.queue_at from f).long ((bounds m c.fine).send_room from f g)
 
   queued : (from j : ℕ) → j < m.made → 1 ≤ (view m (number j 1)).phase → (view m (number j 1)).phase ≢ 5 → (view m (number j 1)).actor ≡ from → 1 ≤ times (number j 1) (standing (queue m from))
-  queued from j h f n a =
-      let v : number j 1 < 32 = omega (arith, u.made16) in
-      let p = (u.view_at (number j 1) v).phase5 (omega arith) in
-      let q = u.queued_once (number j 1) v f (omega arith) in
-      subst (λ (x : ℕ). 1 ≤ times (number j 1) (standing (queue m x))) a (omega arith)
+  queued from j e f g h = search (rules, u)
 
   -- the causes of a send: its job received each, and what isn't settled stands in its queue
   new_cause : (from to own word causes : ℕ) → send_no m from to own causes ≡ 0 → (k : ℕ) → k ≡ m.made → (j : ℕ) → j < 16 → bit (view (sent m from to own word causes) (number k 0)).causes j ≡ true

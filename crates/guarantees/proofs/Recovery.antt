@@ -1,7 +1,7 @@
 -- The guarantee 6 where stores are down: each restart is taken and leaves the other stores, so all are up. Assumes nothing.
 use mathlib.Core.Path.{◌≡◌, refl, ap, ◌∙◌}
 use mathlib.Core.Bool.{Bool, true, false, ◌||◌}
-use mathlib.Core.List.{List, [], ◌∷◌, ◌++◌, append-nil}
+use mathlib.Core.List.{List, [], ◌∷◌, ◌++◌}
 use Prim.Native.Nat.{ℕ, zero, suc, ◌≤◌, ◌<◌}
 use native.Mathlib.Numerals.{add-one}
 use native.Mathlib.Omega.{arith}
@@ -10,6 +10,7 @@ use borrow.Author.Tests.{le-leb}
 use lib.Dec.{leb}
 use lib.ListN.{length, replicate, length-append}
 use lib.Seq.{get_or-set_same, get_or-set_other}
+use Rattle.std.proofs.Common.{rules}
 use Rattle.protocol.specs.Words.{pick}
 use Rattle.protocol.specs.Slots.{no_store, shelf, is_up}
 use Rattle.protocol.specs.Stores.{turned}
@@ -53,20 +54,7 @@ record Restarted (m : State) (n : ℕ) (ss : List Step) : Type 0 where
 module _ (m : State) (c : Reached m) where
   restart : (n : ℕ) (ss : List Step) → n < m.stores → Restarted m n ss → (b : Bool) → is_up m n ≡ b → Restarted m (suc n) (ss ++ pick b [] (Restart n ∷ []))
   unfolding restarted ran answers
-  restart n ss h r true e =
-      rw (append-nil ss)
-      (record {
-        stores = r.stores;
-        made = r.made;
-        up = λ p g. below p g (ℕ_discrete p n);
-        rest = λ p g. r.rest p (omega arith);
-        few = omega (arith, r.few);
-        zeros = r.zeros;
-      })
-    where
-      below : (p : ℕ) → p < suc n → Dec (p ≡ n) → is_up (ran m ss) p ≡ true
-      below p g (yes x) = rw x (r.rest n (omega arith) ∙ e)
-      below p g (no x) = r.up p (omega arith)
+  restart n ss h r true e = search rules
   restart n ss h r false e =
       let d = run_reached m c ss in
       let x : step_of (ran m ss) (Restart n) ≡ record { state = after_of (ran m ss) (Restart n); answer = 0 } = taken_gives (ran m ss) (Restart n) d.fine (record { store_in = omega (arith, r.stores); down = r.rest n (omega arith) ∙ e }) in

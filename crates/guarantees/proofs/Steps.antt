@@ -1,14 +1,12 @@
 -- From the rules to steps, refused ones too: the invariant, the turn of a view, and what a store holds. Assumes nothing.
-use mathlib.Core.Path.{◌≡◌, refl, ap}
-use mathlib.Core.Bool.{Bool, true, false}
+use mathlib.Core.Path.{◌≡◌, ap}
+use mathlib.Core.Bool.{false}
 use Prim.Native.Nat.{ℕ, ◌*◌, ◌/◌, ◌%◌, ◌≤◌, ◌<◌}
 use native.Mathlib.Omega.{arith}
 use native.Mathlib.Decide.{ℕ_discrete, dec_lt}
 use borrow.Author.Tests.{eqb-true}
-use lib.Dec.{eqb}
-use Rattle.protocol.specs.Words.{pick}
+use Rattle.std.proofs.Common.{rules}
 use Rattle.protocol.specs.Slots.{number, view}
-use Rattle.protocol.specs.Setup.{answered}
 use Rattle.protocol.specs.Broken.{broken_of}
 use Rattle.unbroken.specs.Unbroken.{Unbroken}
 use Rattle.protocol.specs.declared.State.{State}
@@ -26,11 +24,7 @@ use Rattle.guarantees.proofs.Reached.{Reached, backed_kept, both_kept, causes_ke
 -- what holds of a machine and of what a rule gives when it is taken holds after a step
 pub by_step : (P : State → Type 0) (m : State) (s : Step) → broken_of m ≡ false → P m → (number_of m s ≡ 0 → P (after_of m s)) → P (step_of m s).state
 unfolding step_of rule_of
-by_step P m s b x f = rw b (go (eqb (number_of m s) 0) refl)
-  where
-    go : (t : Bool) → eqb (number_of m s) 0 ≡ t → P (pick t (answered 0 (after_of m s)) (answered (number_of m s) m)).state
-    go true e = f (eqb-true (number_of m s) 0 e)
-    go false e = x
+by_step P m s e f g = search (rules, eqb-true)
 
 -- a view that isn't made is in phase 0, and a step makes it at most queued
 pub record Unmade (m n : State) (v : ℕ) : Type 0 where

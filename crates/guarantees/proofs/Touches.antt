@@ -1,15 +1,16 @@
 -- What each rule writes, read back: the one interaction that it touches, and nothing else. Assumes nothing.
-use mathlib.Core.Path.{◌≡◌, refl, sym, ap, ◌∙◌}
+use mathlib.Core.Path.{◌≡◌, refl, sym}
 use mathlib.Core.Logic.{◌≢◌}
 use Prim.Native.Nat.{ℕ, ◌+◌, ◌-◌, ◌<◌}
 use native.Mathlib.Omega.{arith}
 use native.Mathlib.Decide.{ℕ_discrete}
 use borrow.Author.Tests.{eq-eqb, ne_eqb}
 use lib.Dec.{eqb}
-use lib.ListN.{length, get_or, set, length-set}
+use lib.ListN.{length, get_or, set}
 use lib.Seq.{get_or-set_same, get_or-set_other}
+use Rattle.std.proofs.Common.{rules}
 use Rattle.protocol.specs.Words.{pick}
-use Rattle.protocol.specs.Slots.{number, place, shelf, view, repair, entry, viewlink, ack_copies, update_copies, uack_copies, no_view, no_repair, no_entry}
+use Rattle.protocol.specs.Slots.{number, shelf, view, repair, entry, viewlink, ack_copies, update_copies, uack_copies}
 use Rattle.protocol.specs.Writes.{with_view, with_repair, with_entry, with_entries, with_ack_copies, with_update_copies, with_uack_copies, with_shelf}
 use Rattle.unbroken.specs.Unbroken.{Sized}
 use Rattle.protocol.specs.declared.State.{State}
@@ -26,19 +27,11 @@ use Rattle.guarantees.proofs.Whole.{job, job_of, cell_of, cell, Touch}
 
 -- what holds of a place as it is written, and of the others as they were
 pub at_store_holds : (P : ℕ → Cell → Type 0) (p : ℕ) (x : Cell) (y : ℕ → Cell) → P p x → ((q : ℕ) → q < 8 → P q (y q)) → (q : ℕ) → q < 8 → P q (pick (eqb q p) x (y q))
-at_store_holds P p x y h f q hq = go (ℕ_discrete q p)
-  where
-    go : Dec (q ≡ p) → P q (pick (eqb q p) x (y q))
-    go (yes e) = rw (e, eq-eqb p p refl) h
-    go (no n) = rw (ne_eqb q p n) (f q hq)
+at_store_holds P p x y e f q g = search rules
 
 -- the same of two places at one store
 pub at_stores : (P : ℕ → Cell → Cell → Type 0) (p : ℕ) (x x' : Cell) (y y' : ℕ → Cell) → P p x x' → ((q : ℕ) → q < 8 → P q (y q) (y' q)) → (q : ℕ) → q < 8 → P q (pick (eqb q p) x (y q)) (pick (eqb q p) x' (y' q))
-at_stores P p x x' y y' h f q hq = go (ℕ_discrete q p)
-  where
-    go : Dec (q ≡ p) → P q (pick (eqb q p) x (y q)) (pick (eqb q p) x' (y' q))
-    go (yes e) = rw (e, eq-eqb p p refl) h
-    go (no n) = rw (ne_eqb q p n) (f q hq)
+at_stores P p x x' y y' e f q g = search rules
 
 -- a machine with all the copies at one place written anew
 abbrev pub with_counts : State → ℕ → ℕ → ℕ → ℕ → ℕ → State
@@ -55,11 +48,7 @@ module _ (m : State) (z : Sized m) (p : ℕ) (hp : p < 8) (t : Store) where
 
   -- a view of which the store has what it had
   pub same_cell : (q v : ℕ) → cell_of t v (ack_copies m p v) (update_copies m p v) (uack_copies m p v) ≡ cell m p v → cell (with_shelf m p t) q v ≡ cell m q v
-  same_cell q v e = written_cell q v ∙ go (ℕ_discrete q p)
-    where
-      go : Dec (q ≡ p) → pick (eqb q p) (cell_of t v (ack_copies m p v) (update_copies m p v) (uack_copies m p v)) (cell m q v) ≡ cell m q v
-      go (yes d) = rw (eq-eqb q p d) (e ∙ ap (λ (i : ℕ). cell m i v) (sym d))
-      go (no n) = rw (ne_eqb q p n)
+  same_cell q v e = search (rules, written_cell, eq-eqb, ne_eqb)
 
 -- a record is taken: contents, a viewlink where there was none, and an ack is owed
 module _ (s : Store) (v : ℕ) (w : View) (row : length s.viewlinks ≡ 32) (hv : v < 32) (a n y : ℕ) where
@@ -87,91 +76,27 @@ module _ (m : State) (z : Sized m) (k r : ℕ) (hk : k < 16) (hr : r < 2) where
 
   -- a view's record
   pub view_touch : (w : View) → Touch m (with_view m (number k r) w) k r (job_of w (repair m (number k r)) (entry m (number k r))) (job m (number k (1 - r))) (λ p. cell m p (number k r)) (λ p. cell m p (number k (1 - r)))
-  view_touch w =
-      record {
-        me = rw (get_or-set_same m.views (number k r) w no_view (omega (arith, z.views)));
-        ot = rw (get_or-set_other m.views (number k r) (number k (1 - r)) w no_view other_view);
-        mc = λ p hp. refl;
-        oc = λ p hp. refl;
-        far_job = λ u hu f g. rw (get_or-set_other m.views (number k r) u w no_view f);
-        far_cell = λ p u hp hu f g. refl;
-        far_sent = λ j f. refl;
-      }
+  view_touch w = search rules
 
   -- a view's record and its repair
   pub repair_touch : (w : View) (q : Repair) → Touch m (with_repair (with_view m (number k r) w) (number k r) q) k r (job_of w q (entry m (number k r))) (job m (number k (1 - r))) (λ p. cell m p (number k r)) (λ p. cell m p (number k (1 - r)))
-  repair_touch w q =
-      record {
-        me = rw (get_or-set_same m.views (number k r) w no_view (omega (arith, z.views)), get_or-set_same m.repairs (number k r) q no_repair (omega (arith, z.repairs)));
-        ot = rw (get_or-set_other m.views (number k r) (number k (1 - r)) w no_view other_view, get_or-set_other m.repairs (number k r) (number k (1 - r)) q no_repair other_view);
-        mc = λ p hp. refl;
-        oc = λ p hp. refl;
-        far_job = λ u hu f g. rw (get_or-set_other m.views (number k r) u w no_view f, get_or-set_other m.repairs (number k r) u q no_repair f);
-        far_cell = λ p u hp hu f g. refl;
-        far_sent = λ j f. refl;
-      }
+  repair_touch w q = search rules
 
   -- both entries, and the repair
   pub entries_touch : (e f : Entry) (q : Repair) → Touch m (with_repair (with_entries m (set (set m.entries (number k r) e) (number k (1 - r)) f)) (number k r) q) k r (job_of (view m (number k r)) q e) (job_of (view m (number k (1 - r))) (repair m (number k (1 - r))) f) (λ p. cell m p (number k r)) (λ p. cell m p (number k (1 - r)))
-  entries_touch e f q =
-      let back : number k r ≢ number k (1 - r) = λ x. other_view (sym x) in
-      record {
-        me = rw (get_or-set_same m.repairs (number k r) q no_repair (omega (arith, z.repairs)), get_or-set_other (set m.entries (number k r) e) (number k (1 - r)) (number k r) f no_entry back, get_or-set_same m.entries (number k r) e no_entry (omega (arith, z.entries)));
-        ot = rw (get_or-set_other m.repairs (number k r) (number k (1 - r)) q no_repair other_view, get_or-set_same (set m.entries (number k r) e) (number k (1 - r)) f no_entry (rw length-set (omega (arith, z.entries))));
-        mc = λ p hp. refl;
-        oc = λ p hp. refl;
-        far_job = λ u hu x y. rw (get_or-set_other m.repairs (number k r) u q no_repair x, get_or-set_other (set m.entries (number k r) e) (number k (1 - r)) u f no_entry y, get_or-set_other m.entries (number k r) u e no_entry x);
-        far_cell = λ p u hp hu x y. refl;
-        far_sent = λ j x. refl;
-      }
+  entries_touch e f q = search rules
 
   -- an entry
   pub entry_touch : (e : Entry) → Touch m (with_entry m (number k r) e) k r (job_of (view m (number k r)) (repair m (number k r)) e) (job m (number k (1 - r))) (λ p. cell m p (number k r)) (λ p. cell m p (number k (1 - r)))
-  entry_touch e =
-      record {
-        me = rw (get_or-set_same m.entries (number k r) e no_entry (omega (arith, z.entries)));
-        ot = rw (get_or-set_other m.entries (number k r) (number k (1 - r)) e no_entry other_view);
-        mc = λ p hp. refl;
-        oc = λ p hp. refl;
-        far_job = λ u hu f g. rw (get_or-set_other m.entries (number k r) u e no_entry f);
-        far_cell = λ p u hp hu f g. refl;
-        far_sent = λ j f. refl;
-      }
+  entry_touch e = search rules
 
   -- the copies at a place
   module _ (p : ℕ) (hp : p < 8) (a u y : ℕ) where
     there : (q : ℕ) → cell (with_counts m p (number k r) a u y) q (number k r) ≡ pick (eqb q p) (counted_cell a u y (cell m p (number k r))) (cell m q (number k r))
-    there q = go (ℕ_discrete q p)
-      where
-        go : Dec (q ≡ p) → cell (with_counts m p (number k r) a u y) q (number k r) ≡ pick (eqb q p) (counted_cell a u y (cell m p (number k r))) (cell m q (number k r))
-        go (yes f) =
-            rw (
-              f,
-              eq-eqb p p refl,
-              get_or-set_same m.acks (place p (number k r)) a 0 (omega (arith, z.acks)),
-              get_or-set_same m.updates (place p (number k r)) u 0 (omega (arith, z.updates)),
-              get_or-set_same m.uacks (place p (number k r)) y 0 (omega (arith, z.uacks)),
-            )
-        go (no n) =
-            let f : place q (number k r) ≢ place p (number k r) = λ e. n (let g : q ≡ p = omega arith in g) in
-            rw (ne_eqb q p n) (simp get_or-set_other)
-
-    elsewhere : (q w : ℕ) → w < 32 → w ≢ number k r → cell (with_counts m p (number k r) a u y) q w ≡ cell m q w
-    elsewhere q w hw n =
-        let f : place q w ≢ place p (number k r) = λ e. n (let g : w ≡ number k r = omega arith in g) in
-        simp get_or-set_other
+    there q = search rules
 
     pub counts_touch : Touch m (with_counts m p (number k r) a u y) k r (job m (number k r)) (job m (number k (1 - r))) (λ q. pick (eqb q p) (counted_cell a u y (cell m p (number k r))) (cell m q (number k r))) (λ q. cell m q (number k (1 - r)))
-    counts_touch =
-        record {
-          me = refl;
-          ot = refl;
-          mc = λ q hq. there q;
-          oc = λ q hq. elsewhere q (number k (1 - r)) (omega arith) other_view;
-          far_job = λ w hw f g. refl;
-          far_cell = λ q w hq hw f g. elsewhere q w hw f;
-          far_sent = λ j f. refl;
-        }
+    counts_touch = search rules
 
   -- a store that takes a record, or an update
   module _ (p : ℕ) (hp : p < 8) (row : length (shelf m p).viewlinks ≡ 32) where
@@ -180,15 +105,7 @@ module _ (m : State) (z : Sized m) (k r : ℕ) (hk : k < 16) (hr : r < 2) where
     taken_touch w =
         let t = taken_in (shelf m p) (number k r) w in
         let hv : number k r < 32 = omega arith in
-        record {
-          me = refl;
-          ot = refl;
-          mc = λ q hq. rw (← taken_cell (shelf m p) (number k r) w row hv (ack_copies m p (number k r)) (update_copies m p (number k r)) (uack_copies m p (number k r))) (written_cell m z p hp t q (number k r));
-          oc = λ q hq. same_cell m z p hp t q (number k (1 - r)) (taken_beside (shelf m p) (number k r) w row hv _ _ _ (number k (1 - r)) other_view);
-          far_job = λ v hv f g. refl;
-          far_cell = λ q v hq h f g. same_cell m z p hp t q v (taken_beside (shelf m p) (number k r) w row hv _ _ _ v f);
-          far_sent = λ j f. refl;
-        }
+        search (rules, taken_cell, written_cell, same_cell, taken_beside, other_view)
 
     pub updated_touch : (own : ℕ) → Touch m (with_shelf m p (updated_in (shelf m p) (number k r) (number k (1 - r)) own)) k r (job m (number k r)) (job m (number k (1 - r)))
         (λ q. pick (eqb q p) (updated_cell (cell m p (number k r))) (cell m q (number k r))) (λ q. pick (eqb q p) (linked_cell (own + 1) (cell m p (number k (1 - r)))) (cell m q (number k (1 - r))))
@@ -196,12 +113,4 @@ module _ (m : State) (z : Sized m) (k r : ℕ) (hk : k < 16) (hr : r < 2) where
         let t = updated_in (shelf m p) (number k r) (number k (1 - r)) own in
         let ho : number k (1 - r) < 32 = omega arith in
         let apart : number k r ≢ number k (1 - r) = λ e. other_view (sym e) in
-        record {
-          me = refl;
-          ot = refl;
-          mc = λ q hq. rw (← updated_cell_holds (shelf m p) (number k r) (number k (1 - r)) own row ho apart (ack_copies m p (number k r)) (update_copies m p (number k r)) (uack_copies m p (number k r))) (written_cell m z p hp t q (number k r));
-          oc = λ q hq. rw (← updated_other (shelf m p) (number k r) (number k (1 - r)) own row ho apart (ack_copies m p (number k (1 - r))) (update_copies m p (number k (1 - r))) (uack_copies m p (number k (1 - r)))) (written_cell m z p hp t q (number k (1 - r)));
-          far_job = λ v hv f g. refl;
-          far_cell = λ q v hq hv f g. same_cell m z p hp t q v (updated_beside (shelf m p) (number k r) (number k (1 - r)) own row ho apart _ _ _ v f g);
-          far_sent = λ j f. refl;
-        }
+        search (rules, updated_cell_holds, written_cell, updated_other, same_cell, updated_beside)

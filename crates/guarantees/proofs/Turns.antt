@@ -9,6 +9,7 @@ use borrow.Author.Tests.{eqb-true}
 use lib.Dec.{eqb}
 use lib.ListN.{get_or, set}
 use lib.Seq.{get_or-set_same, get_or-set_other}
+use Rattle.std.proofs.lemmas.Bool.{and_parts}
 use Rattle.protocol.specs.Words.{pick}
 use Rattle.protocol.specs.Slots.{number, view, no_view}
 use Rattle.protocol.specs.Writes.{with_record_copies, with_ack_copies, with_update_copies, with_uack_copies}
@@ -40,7 +41,7 @@ use Rattle.protocol.specs.Step.{number_of, after_of}
 use Rattle.protocol.specs.declared.Step.{Step}
 use Rattle.protocol.specs.declared.Step.TheVariants.{Send, Receive, PreCheck, SendRecord, Timeout, TakeRecord, TakeAck, PostCheck, TakeRepair, SendUpdate, TakeUpdate, TakeUack, Expire, Lose, Crash, Restart, Checkpoint, Duplicate}
 use Rattle.keeps.proofs.Conditions.{taken_when}
-use Rattle.guarantees.proofs.Heads.{Headed, and_true, headed}
+use Rattle.guarantees.proofs.Heads.{Headed, headed}
 
 pub data Turn (m : State) (s : Step) (v : ℕ) : View → Type 0 where
   stays : Turn m s v (view m v)
@@ -108,8 +109,8 @@ module _ (m : State) (u : Unbroken m) (v : ℕ) (h : v < m.made * 2) where
     where
       go : v ≡ number k r → (b : Bool) → accepts m p (number k r) ≡ b → Turn m (TakeAck p k r) v (pick (accepts m p (number k r)) (phased 4 (view m (number k r))) (view m (number k r)))
       go x true c =
-          let a = and_true (is_head m (number k r) && eqb (view m (number k r)).phase 3) (eqb (view m (number k r)).store p) c in
-          let b = and_true (is_head m (number k r)) (eqb (view m (number k r)).phase 3) a.0 in
+          let a = and_parts (is_head m (number k r) && eqb (view m (number k r)).phase 3) (eqb (view m (number k r)).store p) c in
+          let b = and_parts (is_head m (number k r)) (eqb (view m (number k r)).phase 3) a.0 in
           let f = eqb-true (view m (number k r)).phase 3 b.1 in
           let g = eqb-true (view m (number k r)).store p a.1 in
           rw c (subst (λ (y : ℕ). Turn m (TakeAck p k r) v (phased 4 (view m y))) x (acked p k r refl x (rw x f) (rw x g)))

@@ -5,13 +5,14 @@ use mathlib.Core.Path.{◌≡◌, refl, sym, ap, ◌∙◌, subst}
 use mathlib.Core.Logic.{◌≢◌}
 use mathlib.Core.Bool.{Bool, true, false, ◌&&◌, not}
 use mathlib.Core.List.{List, ◌++◌}
-use Prim.Native.Nat.{ℕ, zero, suc, ◌+◌, ◌-◌, ◌≤◌, ◌<◌}
+use Prim.Native.Nat.{ℕ, zero, suc, ◌+◌, ◌-◌, ◌<◌}
 use native.Mathlib.Omega.{arith}
-use native.Mathlib.Decide.{ℕ_discrete}
 use borrow.Author.Tests.{ne_eqb, lt-leb}
 use lib.Dec.{eqb}
 use lib.ListN.{get_or, take}
 use lib.Seq.{get_or-set_other}
+use Rattle.std.proofs.lemmas.Bool.{and_parts, both_ways}
+use Rattle.std.proofs.Common.{rules}
 use Rattle.protocol.specs.Words.{pick, bit, one, times}
 use Rattle.protocol.specs.Slots.{number, view, is_lasting, lasting_contents, lasting_cause_links, home, queue, standing}
 use Rattle.protocol.specs.Closed.{closed_of}
@@ -30,9 +31,7 @@ use Rattle.reaches.specs.Reaches.{Reach, Cause as Cause', keys_of}
 use Rattle.reaches.proofs.Keys.{IsMet, none_met, sound_unmet}
 use Rattle.reaches.proofs.Visited.{visited}
 use Rattle.reaches.proofs.Laws.{answered_reaches}
-use Rattle.protocol.specs.declared.Met.{Met}
-use Rattle.protocol.specs.Walk.{added, spoiled, looked_up, found_of, causes_held, receipt_of, hop_of, each, is_due, to_cause, visit_of, unmet, walked_from, refused_walk, walk_of}
-use Rattle.guarantees.proofs.Heads.{and_true, absurd_eq}
+use Rattle.protocol.specs.Walk.{Met, added, spoiled, looked_up, found_of, causes_held, receipt_of, hop_of, each, is_due, to_cause, visit_of, unmet, walked_from, walk_of}
 use Rattle.guarantees.proofs.Causes.{Cause}
 use Rattle.guarantees.proofs.Reached.{Reached, Causes}
 use Rattle.guarantees.proofs.Demand.{There, there, flag, reached}
@@ -143,11 +142,7 @@ module _ (m : State) where
 
   added_closed : (k : ℕ) (w : Met) → closed_of m k ≡ true → MetClosed w → MetClosed (added w k)
   unfolding MetClosed
-  added_closed k w e h i g = go (ℕ_discrete i k)
-    where
-      go : Dec (i ≡ k) → closed_of m i ≡ true
-      go (yes x) = rw x e
-      go (no n) = h i (sym (get_or-set_other w.met k i true false n) ∙ g)
+  added_closed k w e f = search (rules, get_or-set_other)
 
   spoiled_closed : (w : Met) → MetClosed w → MetClosed (spoiled w)
   unfolding MetClosed
@@ -171,12 +166,12 @@ module _ (m : State) where
       go true e f =
           each_closed (to_cause (visit_of depth m) m k link) (causes_held m k link) k 0 (added (looked_up w) k)
           (λ i x g. both_closed (is_due x i) (visit_of depth m i (hop_of m k link i) (looked_up x)) x (f i (looked_up x) (looked_closed x g)) g)
-          (added_closed k (looked_up w) (and_true (not (eqb link 0) && is_lasting m (link - 1) (number k 0)) (closed_of m k) e).1 (looked_closed w h))
+          (added_closed k (looked_up w) (and_parts (not (eqb link 0) && is_lasting m (link - 1) (number k 0)) (closed_of m k) e).1 (looked_closed w h))
       go false e f = spoiled_closed w h
 
   none_closed : MetClosed unmet
   unfolding MetClosed
-  none_closed i h = absurd_eq (sym h ∙ none_met i)
+  none_closed i h = absurd (both_ways _ (none_met i) h)
 
   -- a key that an answered walk lists is closed
   walked_closed : Reached m → (k i : ℕ) → k < m.made → (walk_of m k).answer ≡ 0 → times i (keys_of (walk_of m k)) ≡ 1 → closed_of m i ≡ true
@@ -198,11 +193,7 @@ module _ (m : State) where
 
   walk_13 : Reached m → (k : ℕ) → k < m.made → (walk_of m k).answer ≢ 0 → (walk_of m k).answer ≡ 13
   unfolding walk_of
-  walk_13 c k hk n = rw (c.fine, lt-leb m.made k hk) (go (walked_from m k).fine refl)
-    where
-      go : (f : Bool) → (walked_from m k).fine ≡ f → (pick f (record { answer = 0; keys = (walked_from m k).keys; count = (walked_from m k).count; lookups = (walked_from m k).lookups }) (refused_walk 13)).answer ≡ 13
-      go true f = absurd (n (rw (c.fine, lt-leb m.made k hk, f)))
-      go false f = refl
+  walk_13 e k f g = search (rules, hk, lt-leb)
 
 -- what is reached over the records' causes is what is reached over those that were sent
 module _ (u : Setup) (l : Legal u) (steps : List Step) where
@@ -277,8 +268,4 @@ the_walk u l steps up k h =
     let made : (after u (steps ++ more)).made ≡ (after u steps).made = ap (λ (m : State). m.made) (sym d.run) ∙ d.made in
     let w = every_walk u l (steps ++ more) k (omega arith) in
     let a = w.answered (λ i r. ap (λ (m : State). closed_of m i) (sym d.run) ∙ d.closes i (reach_made u l steps k i h (of_sent u l steps k i h (reach_off u l steps more k i h r)))) in
-    record {
-      answered = subst (λ (m : State). (walk_of m k).answer ≡ 0) (sym d.run) a;
-      once = λ i r. subst (λ (m : State). times i (keys_of (walk_of m k)) ≡ 1) (sym d.run) (w.once a i (reach_on u l steps more k i h r));
-      only = λ i t. reach_off u l steps more k i h (w.only a i (subst (λ (m : State). 1 ≤ times i (keys_of (walk_of m k))) d.run t));
-    }
+    search (rules, u, the_drain, every_walk, reach_made, of_sent, reach_off, reach_on)

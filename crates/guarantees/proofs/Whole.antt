@@ -1,11 +1,12 @@
 -- The local record at every interaction and store of a machine. A step touches one interaction: what is shown there holds everywhere.
 -- Assumes nothing.
-use mathlib.Core.Path.{◌≡◌, sym, ◌∙◌}
+use mathlib.Core.Path.{◌≡◌}
 use mathlib.Core.Logic.{◌≢◌}
 use Prim.Native.Nat.{ℕ, ◌-◌, ◌≤◌, ◌<◌}
 use native.Mathlib.Omega.{arith}
 use native.Mathlib.Decide.{ℕ_discrete}
 use lib.ListN.{get_or}
+use Rattle.std.proofs.Common.{rules}
 use Rattle.protocol.specs.Words.{one, bit}
 use Rattle.protocol.specs.Slots.{number, status_number, view, repair, entry, message, shelf, ack_copies, update_copies, uack_copies}
 use Rattle.protocol.specs.declared.State.{State}
@@ -68,13 +69,7 @@ pub record Touch (m n : State) (k r : ℕ) (w x : Job) (c d : ℕ → Cell) : Ty
   pub far_sent : (j : ℕ) → j ≢ k → (message n j).own ≡ (message m j).own
 
 role_two : (r s : ℕ) → r < 2 → s < 2 → r ≢ s → s ≡ 1 - r
-role_two r s h g n = go (ℕ_discrete r 0) (ℕ_discrete s 0)
-  where
-    go : Dec (r ≡ 0) → Dec (s ≡ 0) → s ≡ 1 - r
-    go (yes a) (yes b) = absurd (n (a ∙ sym b))
-    go (yes a) (no b) = omega arith
-    go (no a) (yes b) = omega arith
-    go (no a) (no b) = absurd (n (let e : r ≡ s = omega arith in e))
+role_two r s e f g = search rules
 
 module _ (m n : State) (k r : ℕ) (w x : Job) (c d : ℕ → Cell) (hr : r < 2) (t : Touch m n k r w x c d) where
   -- every interaction of n is k, or one of m

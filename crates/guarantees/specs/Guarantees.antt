@@ -1,6 +1,6 @@
--- Demand 3, sentence by sentence. The proofs stand in proofs/. What is said of the drain and of the walk is said of any, so that it can
--- be said of a wrong one too (crate bites); the demand is about document 01's, `drain_of` and `walk_of`. What a store holds is said of its
--- checkpointed state, as document 02 asks (K4).
+-- docs/GUARANTEES.md, Delivery, sentence by sentence. The proofs stand in proofs/. What is said of the drain and of the walk is said of
+-- any, so that it can be said of a wrong one too (crate bites); what is claimed is about `drain_of` and `walk_of`. What a store holds is
+-- said of its checkpointed state.
 use Rattle.std.specs.Prelude.{ℕ, zero, suc, ◌+◌, ◌-◌, ◌*◌, ◌≤◌, ◌<◌, ◌≡◌, ◌≢◌, true, List, [], ◌∷◌, ◌++◌, length, get_or, replicate}
 use Rattle.protocol.specs.Words.{pick, bit, times}
 use Rattle.protocol.specs.Slots.{number, status_number, is_up, view, entry, ack_copies, uack_copies, is_held, is_lasting, lasting_contents as contents, lasting_cause_links as cause_links, lasting_viewlink as viewlink}
@@ -11,17 +11,15 @@ use Rattle.protocol.specs.declared.State.{State}
 use Rattle.protocol.specs.declared.View.{View}
 use Rattle.protocol.specs.declared.Setup.{Setup}
 use Rattle.protocol.specs.declared.Status.{Status}
-use Rattle.protocol.specs.declared.Drained.{Drained}
-use Rattle.protocol.specs.declared.Walked.{Walked}
+use Rattle.protocol.specs.Drain.{Drained, all_up, drain_of}
+use Rattle.protocol.specs.Walk.{Walked, walk_of}
 use Rattle.protocol.specs.Step.{step_of}
 use Rattle.protocol.specs.declared.Step.{Step}
 use Rattle.protocol.specs.Book.{setup_read}
 use Rattle.protocol.specs.declared.Step.TheVariants.{Crash, Restart}
 use Rattle.protocol.specs.Run.{ran, answers, legal_setup, fresh_of, run_of, buffer_of, steps_read}
-use Rattle.protocol.specs.Drain.{all_up, drain_of}
 use Rattle.keeps.specs.Lasting.{Backed, Lasts}
 use Rattle.drains.specs.Drains.{steps_of}
-use Rattle.protocol.specs.Walk.{walk_of}
 use Rattle.reaches.specs.Reaches.{keys_of}
 use Rattle.protocol.specs.Listing.{refused_line, listing_of}
 use Rattle.guarantees.specs.Acknowledged.{Legal, after, accepted, acknowledged, AckedBy}
@@ -222,15 +220,7 @@ Books = (book : List ℕ) (room : ℕ) → (run_of book room).answer ≡ 0 → B
 
 -- 9. Every call answers: each public call is a proved function, so it ends for every input; and its promise, `result ≡ definition of
 -- the inputs`, leaves exactly one result. That holds of any definition, and shows nothing by itself: what bites is that the contracts
--- have this shape, which the gate looks at. All public calls, with the crate that has them:
---   protocol: status_number, unset_view
---   broken: legal, fresh, empty, is_broken
---   rules: look_back, one_more, Slots::rule (what `machine` is made of; the last has no equation, docs/ say why)
---   machine: Machine::empty, setup, broken, step; its joints step_unbroken and steps_unbroken, for machines that are not broken
---   drain: drain. walk: walk. runs: run, with its buffer, and step_at
---   listing: refused, listing. provn: write. pair_rule: check, is_rule
---   tautlichen: tautlichen_run, _list, _drain, _walk, _lineage, _pair, whose lent values are told one by one in its specs/Only.antt
---   bench: bench_broken, bench_walk, bench_drain, bench_step, bench_step_unbroken
+-- have this shape, which the gate looks at. docs/PROMISES.md names every public call with its crate and its promise.
 abbrev pub Determined : {A : Type 0} → A → Type 0
 Determined {A} d = (x y : A) → x ≡ d → y ≡ d → x ≡ y
 
@@ -251,6 +241,6 @@ pub record EveryCall : Type 0 where
   pub refused : (n : ℕ) → Determined (refused_line n)
   pub listing : (m : State) (steps taken : ℕ) → Determined (listing_of m steps taken)
 
--- .. and whatever is defined above this crate: look_back, tautlichen, bench
+-- .. and whatever definition a call above this crate has
 abbrev pub AnyCall : Type 1
 AnyCall = (A : Type 0) (d : A) → Determined d

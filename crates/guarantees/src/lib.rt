@@ -1,3 +1,3 @@
-// The guarantees of demand 3 as theorems: specs/ states them, proofs/ proves them.
+// The guarantees of delivery (docs/GUARANTEES.md, Delivery) as theorems: specs/ states them, proofs/ proves them.
 
 #![tactic(auto)]

@@ -8,13 +8,14 @@ use lib.ListN.{get_or}
 use lib.Seq.{set-get_or}
 use lib.Dec.{eqb}
 use borrow.Author.Tests.{eqb-true}
+use Rattle.std.proofs.lemmas.Bool.{and_parts, both_ways}
 use Rattle.protocol.specs.Words.{bit}
 use Rattle.protocol.specs.Slots.{number, no_view, view, queue}
 use Rattle.protocol.specs.Writes.{with_view, with_views}
 use Rattle.unbroken.specs.Unbroken.{CausesSlot, ViewSlot, Unbroken}
 use Rattle.protocol.specs.declared.State.{State}
 use Rattle.protocol.specs.declared.View.{View}
-use Rattle.unbroken.proofs.Laws.Tests.{not_both, by_test, and_left, and_right}
+use Rattle.unbroken.proofs.Laws.Tests.{by_test}
 use Rattle.unbroken.proofs.Laws.Every.{length_table, table_at}
 use Rattle.unbroken.proofs.Laws.Says.{eq_says, zero_splits}
 use Rattle.protocol.specs.Views.{rewritten, phased}
@@ -86,17 +87,17 @@ pre_check_kept m s a c =
     let store : (j : ℕ) → j < 16 → (view m (number j 1)).changed ≡ true → (view m (number j 1)).store < m.stores =
     λ j h e. (s.view_at (number j 1) (omega arith)).store_in
     ((zero_splits (view m (number j 1)).phase).fails (by_test (eqb (view m (number j 1)).phase 0)
-    (λ z. not_both (view m (number j 1)).changed e (ap (λ (w : View). w.changed) ((s.view_at (number j 1) (omega arith)).unset ((eq_says (view m (number j 1)).phase 0).tells z)))) (λ z. z))) in
+    (λ z. absurd (both_ways (view m (number j 1)).changed (ap (λ (w : View). w.changed) ((s.view_at (number j 1) (omega arith)).unset ((eq_says (view m (number j 1)).phase 0).tells z))) e)) (λ z. z))) in
     let links : CausesSlot m.stores (head m a / 2) o.causes (checked_view m o).links =
     record {
       long = length_table (checked_link m o) 16;
       below = was.causes.below;
       link_in = λ j h b. subst (λ (n : ℕ). n < m.stores) (sym (at j h))
           (pick_case (λ (n : ℕ). n < m.stores) (bit o.causes j && (view m (number j 1)).changed) _ _
-          (λ e. store j h (and_right (bit o.causes j) (view m (number j 1)).changed e)) (λ e. was.causes.link_in j h b));
+          (λ e. store j h (and_parts (bit o.causes j) (view m (number j 1)).changed e).1) (λ e. was.causes.link_in j h b));
       link_blank = λ j h b. at j h
           ∙ pick_case (λ (n : ℕ). n ≡ 0) (bit o.causes j && (view m (number j 1)).changed) _ _
-          (λ e. not_both (bit o.causes j) (and_left (bit o.causes j) (view m (number j 1)).changed e) b) (λ e. was.causes.link_blank j h b);
+          (λ e. absurd (both_ways (bit o.causes j) b (and_parts (bit o.causes j) (view m (number j 1)).changed e).0)) (λ e. was.causes.link_blank j h b);
     } in
     head_onward m s a ha some 2 o.store o.changed o.tries _ (omega arith) (omega arith) (was.store_in (head_from m s a ha some)) (was.tries3 (head_from m s a ha some)) links (λ h. absurd (omega arith))
 

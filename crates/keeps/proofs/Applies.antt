@@ -9,6 +9,8 @@ use mathlib.Core.List.{List, [], ◌∷◌, Memᴰ}
 use native.Mathlib.Omega.{arith}
 use lib.Dec.{leb, eqb}
 use borrow.Author.Tests.{not-true, not-false, eq-eqb, eqb-true, le-leb, leb-true}
+use Rattle.std.proofs.lemmas.Bool.{both_ways, not_from_false, or_parts}
+use Rattle.std.proofs.Common.{rules}
 use Rattle.protocol.specs.Words.{pick, bit}
 use Rattle.protocol.specs.Slots.{number, status_number, list, is_up, view, repair, entry, record_copies, ack_copies, update_copies, uack_copies}
 use Rattle.protocol.specs.Broken.{broken_of}
@@ -36,8 +38,8 @@ use Rattle.protocol.specs.Step.{number_of, step_of}
 use Rattle.protocol.specs.declared.Step.{Step}
 use Rattle.protocol.specs.declared.Step.TheVariants.{Send, Receive, PreCheck, SendRecord, Timeout, TakeRecord, TakeAck, PostCheck, TakeRepair, SendUpdate, TakeUpdate, TakeUack, Expire, Lose, Crash, Restart, Checkpoint, Duplicate}
 use Rattle.unbroken.proofs.Laws.Every.{below_fails}
-use Rattle.unbroken.proofs.Laws.Tests.{by_test, not_both, or_else, or_of, nor_left, nor_right, not_of}
-use Rattle.unbroken.proofs.Laws.Says.{Says, eq_says, is_says, le_splits, zero_splits, put_says}
+use Rattle.unbroken.proofs.Laws.Tests.{by_test, or_else, or_of}
+use Rattle.unbroken.proofs.Laws.Says.{Says, eq_says, is_says, zero_splits, put_says}
 use Rattle.keeps.proofs.Conditions.{waiting, to_send_holds, unless, spent_splits, head_says, received_says, causes_say}
 use Rattle.keeps.proofs.Cases.{step_case}
 use Rattle.unbroken.specs.Lowest.{IsLowest}
@@ -54,11 +56,7 @@ module _ (m : State) where
   out (what w) = outside w 4
 
   out_says : (x : Thing) → Says (out x) (In m x → ⊥)
-  out_says (actor a) = lacks (le_splits m.actors a)
-  out_says (store p) = lacks (le_splits m.stores p)
-  out_says (key k) = lacks (le_splits m.made k)
-  out_says (role r) = lacks (le_splits 2 r)
-  out_says (what w) = lacks (le_splits 4 w)
+  out_says x = search rules
 
   -- one of a list isn't, in the words of the rules
   abbrev or_out : Bool → List Thing → Bool
@@ -71,7 +69,7 @@ module _ (m : State) where
 
   or_first : (b : Bool) (l : List Thing) → b ≡ true → or_out b l ≡ true
   or_first b [] e = e
-  or_first b (x ∷ l) e = or_first (b || out x) l (or_of b (out x) (λ f. not_both b e f))
+  or_first b (x ∷ l) e = or_first (b || out x) l (or_of b (out x) (λ f. absurd (both_ways b f e)))
 
   or_told : (b : Bool) (l : List Thing) (x : Thing) → Memᴰ x l → out x ≡ true → or_out b l ≡ true
   or_told b [] x h o = absurd (Memᴰ.not-nil h)
@@ -89,9 +87,7 @@ module _ (m : State) where
       ⊎_elim (λ h. (y, Memᴰ.head refl, (out_says y).tells h)) (λ x. (x.0, Memᴰ.tail x.1, (out_says x.0).tells x.2)) (or_tells (out y) l e)
 
   any_told : (l : List Thing) (x : Thing) → Memᴰ x l → (In m x → ⊥) → any_out l ≡ true
-  any_told [] x h n = absurd (Memᴰ.not-nil h)
-  any_told (y ∷ l) x h n =
-      ⊎_elim (λ e. or_first (out y) l (sym (ap out e) ∙ (out_says x).told n)) (λ g. or_told (out y) l x g ((out_says x).told n)) (Memᴰ.cases_cons h)
+  any_told l x e f = search (rules, or_first, out_says, or_told)
 
   -- the tests of a kind behind that, and what they say
   record Rows (s : Step) : Type 0 where
@@ -139,8 +135,8 @@ module _ (m : State) where
       let x = below_fails 16 (cause_known m from causes) (not-true (causes_known m from causes) e) in
       let j : ℕ = x.0 in
       let f : cause_known m from causes j ≡ false = x.2 in
-      unreceived from to own word causes j x.1 (not-false (bit causes j) (nor_left (not (bit causes j)) (received m from j) f))
-      (λ y. not_both (received m from j) ((received_says m from j).told y) (nor_right (not (bit causes j)) (received m from j) f))
+      unreceived from to own word causes j x.1 (not-false (bit causes j) (or_parts (not (bit causes j)) (received m from j) f).0)
+      (λ y. absurd (both_ways (received m from j) (or_parts (not (bit causes j)) (received m from j) f).1 ((received_says m from j).told y)))
 
   timeout_fails : (a p : ℕ) → not (bit (list m a) p) || is_spent p (head_view m a) ≡ true → Applies m (Timeout a p) 8
   timeout_fails a p e =
@@ -204,15 +200,15 @@ module _ (m : State) where
   told (is_outside {s = s} x h n) = inr (inl (refl, any_told (named s) x h n))
   told (to_itself from to own word causes e) = inr (inr (inl (refl, eq-eqb from to e)))
   told (is_full from to own word causes l) = inr (inr (inr (inl (refl, le-leb 16 m.made l))))
-  told (record_down p k r e) = inr (inr (inl (refl, not_of (is_up m p) e)))
-  told (update_down p k r e) = inr (inr (inl (refl, not_of (is_up m p) e)))
-  told (crash_down p e) = inr (inr (inl (refl, not_of (is_up m p) e)))
-  told (checkpoint_down p e) = inr (inr (inl (refl, not_of (is_up m p) e)))
+  told (record_down p k r e) = inr (inr (inl (refl, not_from_false (is_up m p) e)))
+  told (update_down p k r e) = inr (inr (inl (refl, not_from_false (is_up m p) e)))
+  told (crash_down p e) = inr (inr (inl (refl, not_from_false (is_up m p) e)))
+  told (checkpoint_down p e) = inr (inr (inl (refl, not_from_false (is_up m p) e)))
   told (restart_up p e) = inr (inr (inl (refl, e)))
   told (is_missing {s = s} n) = inr (inr ((rows s).missing n))
-  told (own_unlisted from to own word causes e) = inr (inr (inr (inr (inl (refl, not_of (bit (list m from) own) e)))))
+  told (own_unlisted from to own word causes e) = inr (inr (inr (inr (inl (refl, not_from_false (bit (list m from) own) e)))))
   told (timeout_unlisted a p e) =
-      inr (inr (inr (inl (refl, or_of (not (bit (list m a) p)) (is_spent p (head_view m a)) (λ f. not_both (not (bit (list m a) p)) (not_of (bit (list m a) p) e) f)))))
+      inr (inr (inr (inl (refl, or_of (not (bit (list m a) p)) (is_spent p (head_view m a)) (λ f. absurd (both_ways (not (bit (list m a) p)) f (not_from_false (bit (list m a) p) e)))))))
   told (timeout_current a p e t) = inr (inr (inr (inl (refl, or_of (not (bit (list m a) p)) (is_spent p (head_view m a)) (λ f. (spent_splits m a p).holds.told (e, t))))))
   told (unreceived from to own word causes j l b n) =
       inr (inr (inr (inr (inr (inl (refl, (unless (causes_say m from causes)).holds.told (λ f. n (f j l b))))))))

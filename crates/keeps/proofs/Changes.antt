@@ -8,6 +8,8 @@ use native.Mathlib.Omega.{arith}
 use lib.Seq.{get_or-set_same, set-get_or}
 use lib.Dec.{ltb, eqb}
 use borrow.Author.Tests.{ltb-true, eqb-true}
+use Rattle.std.proofs.lemmas.Bool.{and_parts}
+use Rattle.std.proofs.Common.{rules}
 use Rattle.protocol.specs.Words.{pick}
 use Rattle.protocol.specs.Slots.{number, no_view, no_entry, status_number, view, queue, entry, record_copies, ack_copies, update_copies, uack_copies}
 use Rattle.protocol.specs.Writes.{with_view, with_entry, with_entries, with_ack_copies, with_uack_copies, with_record_copies, with_update_copies}
@@ -19,7 +21,6 @@ use Rattle.protocol.specs.declared.Entry.{Entry}
 use Rattle.protocol.specs.declared.Status.{Status}
 use Rattle.protocol.specs.declared.Status.TheVariants.{ToSend, Waiting, Done}
 use Rattle.unbroken.proofs.Laws.{unbroken}
-use Rattle.unbroken.proofs.Laws.Tests.{and_left, and_right}
 use Rattle.unbroken.proofs.Laws.Says.{eq_says, zero_splits, not_says, and_says}
 use Rattle.protocol.specs.Views.{phased}
 use Rattle.protocol.specs.Rule.{head, head_view, more}
@@ -154,9 +155,7 @@ module _ (m : State) (s : Unbroken m) where
     uacks_15 = (s.uack_at p (number k r) (place_8 m s p k r o) (view_32 m s p k r o)).copies15
 
     copies_15 : (what : ℕ) → copies m what p (number k r) ≤ 15
-    copies_15 what =
-        pick_case (λ n. n ≤ 15) (eqb what 0) _ _ (λ e. records_15)
-        (λ e. pick_case (λ n. n ≤ 15) (eqb what 1) _ _ (λ f. acks_15) (λ f. pick_case (λ n. n ≤ 15) (eqb what 2) _ _ (λ g. updates_15) (λ g. uacks_15)))
+    copies_15 what = search rules
 
   take_record_changes : (p k r : ℕ) → TakeRecordTaken m p k r → Changes m (record_taken m p k r)
   unfolding record_taken
@@ -180,15 +179,15 @@ module _ (m : State) (s : Unbroken m) where
       let a = (view m v).actor in
       let accepted : accepts m p v ≡ true → Changes m (with_view m v (phased 4 (view m v))) =
       λ e.
-      let i = and_left (is_head m v && eqb (view m v).phase 3) (eqb (view m v).store p) e in
-      let d = (and_says (not_says (zero_splits (queue m a).len)) (eq_says (head m a) v)).tells (and_left (is_head m v) (eqb (view m v).phase 3) i) in
+      let i = (and_parts (is_head m v && eqb (view m v).phase 3) (eqb (view m v).store p) e).0 in
+      let d = (and_says (not_says (zero_splits (queue m a).len)) (eq_says (head m a) v)).tells (and_parts (is_head m v) (eqb (view m v).phase 3) i).0 in
       let here = d.1 in
       let h : HeadIn 3 m a = record {
         actor_in = (s.view_at v hv).actor_in (omega arith);
         queued = d.0;
-        head_phase = ap (λ (n : ℕ). (view m n).phase) here ∙ eqb-true (view m v).phase 3 (and_right (is_head m v) (eqb (view m v).phase 3) i);
+        head_phase = ap (λ (n : ℕ). (view m n).phase) here ∙ eqb-true (view m v).phase 3 (and_parts (is_head m v) (eqb (view m v).phase 3) i).1;
       } in
-      let at = ap (λ (n : ℕ). (view m n).store) here ∙ eqb-true (view m v).store p (and_right (is_head m v && eqb (view m v).phase 3) (eqb (view m v).store p) e) in
+      let at = ap (λ (n : ℕ). (view m n).store) here ∙ eqb-true (view m v).store p (and_parts (is_head m v && eqb (view m v).phase 3) (eqb (view m v).store p) e).1 in
       subst (λ (n : ℕ). Changes m (with_view m n (phased 4 (view m n)))) here
       (one m _ (on_head a (phased 4 (head_view m a)) (is_acked p h at (subst (λ (n : ℕ). 1 ≤ ack_copies m p n) (sym here) c.copy)))) in
       then m₁ _ (choose m (with_view m v) (accepts m p v) (phased 4 (view m v)) (view m v) accepted (same_view m v))
@@ -234,7 +233,7 @@ module _ (m : State) (s : Unbroken m) where
       then m₁ _
       (choose m (with_entry m v) (waits && answers) (in_status Done (entry m v)) (entry m v)
       (λ b. one m _ (on_status k r Done (record { key_in = o.key_in; role_in = o.role_in })
-      (is_done p o.store_in (waiting (entry m v).status (eqb-true (status_number (entry m v).status) 2 (and_left waits answers b))) (eqb-true (entry m v).destination p (and_right waits answers b)) c.copy)))
+      (is_done p o.store_in (waiting (entry m v).status (eqb-true (status_number (entry m v).status) 2 (and_parts waits answers b).0)) (eqb-true (entry m v).destination p (and_parts waits answers b).1) c.copy)))
       (ap (with_entries m) (set-get_or m.entries v no_entry)))
       (on_flight m.records m.acks m.updates _ (uacks_there p k r (uack_copies m p v - 1) o₁ c.copy (fewer_15 _ (uacks_15 p k r o))))
 

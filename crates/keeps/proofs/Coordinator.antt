@@ -3,6 +3,7 @@ use Prim.Native.Nat.{ℕ, ◌-◌, ◌≤◌, ◌<◌}
 use mathlib.Core.Path.{◌≡◌, subst}
 use native.Mathlib.Omega.{arith}
 use lib.Seq.{get_or-set_other}
+use Rattle.std.proofs.Common.{rules}
 use Rattle.protocol.specs.Words.{pick}
 use Rattle.protocol.specs.Slots.{number, status_number, view, repair, entry, no_entry, no_repair}
 use Rattle.protocol.specs.Writes.{with_entry}
@@ -21,13 +22,7 @@ use Rattle.keeps.proofs.Stores.{number_32}
 
 -- an entry takes another status, and keeps its stores
 status_slot : {stores phase : ℕ} (t : Status) (e : Entry) → 1 ≤ status_number e.status → 1 ≤ status_number t → EntrySlot stores phase e → EntrySlot stores phase (in_status t e)
-status_slot t e some some' c =
-    record {
-      settled = λ h. c.settled some;
-      destination_in = λ h. c.destination_in some;
-      own_in = λ h. c.own_in some;
-      blank = λ h. absurd (omega arith);
-    }
+status_slot t e f g h = search rules
 
 to_send_slot : (stores phase destination own : ℕ) → phase ≡ 5 → destination < stores → own < stores → EntrySlot stores phase (to_send destination own)
 to_send_slot stores phase destination own e h k =

@@ -6,6 +6,7 @@ use mathlib.Core.Logic.{◌≢◌}
 use mathlib.Core.List.{List}
 use native.Mathlib.Omega.{arith}
 use lib.ListN.{get_or, set}
+use Rattle.std.proofs.Common.{rules}
 use Rattle.protocol.specs.Words.{times}
 use Rattle.protocol.specs.Slots.{no_view, standing, view, queue}
 use Rattle.protocol.specs.Writes.{with_view}
@@ -87,16 +88,10 @@ module _ (m : State) (s : Unbroken m) (a : ℕ) (ha : a < m.actors) (some : 1 �
 
   -- .. and not behind itself
   pub head_behind : (i : ℕ) → i < (queue m a).len → 1 ≤ i → get_or (queue m a).views i 0 ≢ head m a
-  head_behind i hi pos e =
-      let long = standing_long m s a actor_8 in
-      let r = times_two (head m a) (standing (queue m a)) 0 i pos (omega arith) (standing_at m s a actor_8 0 (omega arith)) (standing_at m s a actor_8 i (omega arith) ∙ e) in
-      let o = head_once in
-      absurd (omega arith)
+  head_behind i e f = search (rules, standing_long, actor_8, times_two, standing_at, head_once)
 
   pub behind_elsewhere : (b i : ℕ) → b < 8 → i < (queue m b).len → 1 ≤ i → get_or (queue m b).views i 0 ≢ head m a
-  behind_elsewhere b i hb hi pos e =
-      let q = head_elsewhere b i hb hi e in
-      head_behind i (subst (λ (n : ℕ). i < (queue m n).len) q hi) pos (subst (λ (n : ℕ). get_or (queue m n).views i 0 ≡ head m a) q e)
+  behind_elsewhere b i e f g = search (rules, head_elsewhere, head_behind)
 
   -- the head moves on within phases 1 to 4
   module _ (w : View) (actor : w.actor ≡ (head_view m a).actor) (from : 1 ≤ w.phase) (to : w.phase ≤ 4) where
@@ -125,8 +120,4 @@ module _ (m : State) (s : Unbroken m) (a : ℕ) (ha : a < m.actors) (some : 1 �
         (λ n. s.queued_once u) hu
 
     pub head_write : Job m m.made (view m (head m a - 1)).actor (head m a) w → Unbroken (with_view m (head m a) w)
-    head_write j =
-        jobs_kept m s m.made (set m.views (head m a) w) m.queues m.messages
-        (views_long m s (head m a) head_32 w actor) s.sized.queues s.sized.messages s.made16 (omega arith)
-        (one_job m s (head m a) head_32 w actor j) once stays
-        (message_same m s (head m a) head_32 w actor head_from from)
+    head_write e = search (rules, jobs_kept, views_long, head_32, one_job, once, stays, message_same, head_from)

@@ -6,9 +6,9 @@ use mathlib.Core.Logic.{◌≢◌}
 use mathlib.Core.Bool.{true}
 use mathlib.Core.List.{List}
 use native.Mathlib.Omega.{arith}
-use native.Mathlib.Decide.{ℕ_discrete}
 use lib.ListN.{length, get_or, set, length-set}
 use lib.Seq.{get_or-set_same, get_or-set_other}
+use Rattle.std.proofs.Common.{rules}
 use Rattle.protocol.specs.Words.{times}
 use Rattle.protocol.specs.Slots.{number, no_view, standing}
 use Rattle.protocol.specs.Slots.{view, queue, message, repair, entry, record_copies, ack_copies, contents, cause_links, owes_ack}
@@ -36,26 +36,12 @@ jobs_of m made views queues messages = with_made (with_messages (with_queues (wi
 
 -- a row of viewlinks, with as many interactions or more
 more_made : {stores made made' p : ℕ} {row : List ℕ} → made ≤ made' → RowSlot stores made p row → RowSlot stores made' p row
-more_made more o =
-    record {
-      long = o.long;
-      link_at = λ v h. let i = o.link_at v h in record { link_in = i.link_in; at_store = i.at_store; at_view = λ b. let j = i.at_view b in omega arith };
-    }
+more_made e f = search rules
 
 module _ (m : State) (s : Unbroken m) where
   -- an unbroken machine's views have it all
   pub job_at : (v : ℕ) → v < 32 → Job m m.made (view m (v - 1)).actor v (view m v)
-  job_at v h =
-      record {
-        view_slot = s.view_at v h;
-        repair_slot = s.repair_at v h;
-        entry_slot = s.entry_at v h;
-        record_slot = λ p hp. s.record_at p v hp h;
-        ack_slot = λ p hp. s.ack_at p v hp h;
-        contents_slot = λ p hp. s.contents_at p v hp h;
-        links_slot = λ p k hp hk e. subst (λ (n : ℕ). LinksSlot (has_contents m p n) (view m n).links (cause_links m p k)) (sym e) (s.links_at p k hp hk);
-        ack_owed = λ p hp. s.ack_owed p v hp h;
-      }
+  job_at v e = search rules
 
   module _ (made : ℕ) (views : List View) (queues : List Queue) (messages : List Message) where
     abbrev m' : State
@@ -111,11 +97,7 @@ module _ (m : State) (s : Unbroken m) where
     read_same = let long = s.sized.views in get_or-set_same m.views v w no_view (omega arith)
 
     pub read_view : (P : ℕ → View → Type 0) (u : ℕ) → P v w → (u ≢ v → P u (view m u)) → P u (get_or views' u no_view)
-    read_view P u a b = go (ℕ_discrete u v)
-      where
-        go : Dec (u ≡ v) → P u (get_or views' u no_view)
-        go (yes e) = subst (λ (n : ℕ). P n (get_or views' n no_view)) (sym e) (subst (P v) (sym read_same) a)
-        go (no n) = subst (P u) (sym (get_or-set_other m.views v u w no_view n)) (b n)
+    read_view P u e f = grind (arith, read_same, get_or-set_other)
 
     pub actor_same : (u : ℕ) → (get_or views' u no_view).actor ≡ (view m u).actor
     actor_same u = read_view (λ n x. x.actor ≡ (view m n).actor) u actor (λ n. refl)

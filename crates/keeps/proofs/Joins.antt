@@ -1,11 +1,12 @@
 -- A view that is in phase 0 is made and joins its actor's queue, in phase 1: the queues, and the view's own slots. Assumes nothing.
 use Prim.Native.Nat.{ℕ, ◌+◌, ◌≤◌, ◌<◌}
-use mathlib.Core.Path.{◌≡◌, refl, sym, ap, subst, ◌∙◌}
+use mathlib.Core.Path.{◌≡◌, refl, sym, subst, ◌∙◌}
 use mathlib.Core.Logic.{◌≢◌}
 use mathlib.Core.List.{List}
 use native.Mathlib.Omega.{arith}
-use native.Mathlib.Decide.{dec_lt, ℕ_discrete}
+use native.Mathlib.Decide.{ℕ_discrete}
 use lib.ListN.{get_or, set}
+use Rattle.std.proofs.Common.{rules}
 use Rattle.protocol.specs.Words.{times}
 use Rattle.protocol.specs.Slots.{no_view, no_queue, view, queue, standing, home}
 use Rattle.unbroken.specs.Unbroken.{QueueSlot, Unbroken}
@@ -15,7 +16,7 @@ use Rattle.protocol.specs.declared.Queue.{Queue}
 use Rattle.unbroken.proofs.Laws.Room.{actors8, legal_actor_holds, made_view_holds, unmade_absent}
 use Rattle.protocol.specs.Send.{joined}
 use Rattle.keeps.proofs.Index.{at_others}
-use Rattle.keeps.proofs.Queues.{joined_long, joined_last, joined_at, joined_times, joined_once}
+use Rattle.keeps.proofs.Queues.{joined_long, joined_at, joined_times, joined_once}
 
 -- an actor's home is a store
 pub home_in_holds : (m : State) → Unbroken m → (a : ℕ) → a < m.actors → home m a < m.stores
@@ -37,16 +38,7 @@ module _ (m : State) (s : Unbroken m) (a : ℕ) (ha : a < m.actors) (v : ℕ) (h
   stood P b i hb hi x = subst P (sym (same (get_or (queue m b).views i 0) ((s.queue_at b hb).stands_from i hi))) x
 
   stands : (P : View → Type 0) → P (get_or views v no_view) → (i : ℕ) → i < (queue m a).len + 1 → (i < (queue m a).len → P (view m (get_or (queue m a).views i 0))) → P (get_or views (get_or (joined (queue m a) v).views i 0) no_view)
-  stands P new i hi f = go (dec_lt i (queue m a).len)
-    where
-      q : QueueSlot m.actors m.views a (queue m a)
-      q = s.queue_at a a_8
-
-      go : Dec (i < (queue m a).len) → P (get_or views (get_or (joined (queue m a) v).views i 0) no_view)
-      go (yes b) = subst (λ (u : ℕ). P (get_or views u no_view)) (sym (joined_at (queue m a) q.long v i (omega arith))) (stood P a i a_8 b (f b))
-      go (no b) =
-          let e : i ≡ (queue m a).len = omega arith in
-          subst (λ (u : ℕ). P (get_or views u no_view)) (sym (ap (λ (j : ℕ). get_or (joined (queue m a) v).views j 0) e ∙ joined_last (queue m a) q.long v room)) new
+  stands P e i f g = search rules
 
   joined_slot : QueueSlot m.actors views a (joined (queue m a) v)
   joined_slot =

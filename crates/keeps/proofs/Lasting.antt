@@ -8,9 +8,11 @@ use native.Mathlib.Omega.{arith}
 use lib.ListN.{length, get_or, set}
 use lib.Dec.{eqb}
 use borrow.Author.Tests.{eqb-true, not-false}
+use Rattle.std.proofs.lemmas.Bool.{both_ways, or_parts, or_right}
+use Rattle.std.proofs.Common.{rules}
 use Rattle.protocol.specs.Words.{pick, bit}
-use Rattle.protocol.specs.Slots.{number, place, links_place, no_contents, no_links, no_store, shelf, view, entry, contents, cause_links, is_held, viewlink, is_kept, kept_viewlink}
-use Rattle.protocol.specs.Stores.{turned, thrown_back, saved}
+use Rattle.protocol.specs.Slots.{number, place, links_place, no_contents, no_links, shelf, view, entry, contents, cause_links, is_held, viewlink, is_kept, kept_viewlink}
+use Rattle.protocol.specs.Stores.{thrown_back, saved}
 use Rattle.protocol.specs.Setup.{blank_links}
 use Rattle.protocol.specs.Broken.{has_in}
 use Rattle.protocol.specs.Sweep.{has_contents, swept_contents, swept_links, swept}
@@ -20,8 +22,7 @@ use Rattle.protocol.specs.declared.State.{State}
 use Rattle.protocol.specs.declared.Contents.{Contents}
 use Rattle.protocol.specs.declared.Links.{Links}
 use Rattle.protocol.specs.declared.Store.{Store}
-use Rattle.unbroken.proofs.Laws.Tests.{not_both, nor_left, nor_right, or_second}
-use Rattle.unbroken.proofs.Shelves.{shelf_same, at_shelf}
+use Rattle.unbroken.proofs.Shelves.{shelf_same}
 use Rattle.protocol.specs.Send.{sent}
 use Rattle.protocol.specs.Receive.{received_of}
 use Rattle.protocol.specs.PostCheck.{post_checked}
@@ -57,37 +58,11 @@ record Written (m : State) (p : ℕ) (t : Store) (cs : List Contents) (ls : List
 
 module _ (m : State) (long : length m.shelves ≡ 8) (b : Backed m) where
   written : (p : ℕ) → p < 8 → (t : Store) (cs : List Contents) (ls : List Links) → Written m p t cs ls → Carried m (with_shelf (with_links (with_contents m cs) ls) p t)
-  written p hp t cs ls w =
-      let each = at_shelf m.shelves p t long hp in
-      record {
-        backed = record {
-          held = λ q v hq hv. each (λ i x. bit x.kept v ≡ true → bit x.held v ≡ true) (w.held v hv) (λ i hi. b.held i v hi hv) q hq;
-          linked = λ q v hq hv. each (λ i x. 1 ≤ get_or x.keptlinks v 0 → 1 ≤ get_or x.viewlinks v 0) (w.linked v hv) (λ i hi. b.linked i v hi hv) q hq;
-        };
-        lasts = record {
-          lasting = λ q v hq hv. each (λ i x. is_kept m i v ≡ true → bit x.kept v ≡ true) (w.kept v hv) (λ i hi e. e) q hq;
-          contents = w.contents;
-          links = w.links;
-          linked = λ q v hq hv. each (λ i x. 1 ≤ kept_viewlink m i v → 1 ≤ get_or x.keptlinks v 0) (w.kept_link v hv) (λ i hi e. e) q hq;
-        };
-      }
+  written p e t cs ls f = search rules
 
   -- what is written is no store
   beside : (n : State) → n.shelves ≡ m.shelves → n.contents ≡ m.contents → n.links ≡ m.links → Carried m n
-  beside n e c l =
-      let same : (q : ℕ) → shelf n q ≡ shelf m q = λ q. ap (λ (x : List Store). get_or x q no_store) e in
-      record {
-        backed = record {
-          held = λ q v hq hv. subst (λ (x : Store). bit x.kept v ≡ true → bit x.held v ≡ true) (sym (same q)) (b.held q v hq hv);
-          linked = λ q v hq hv. subst (λ (x : Store). 1 ≤ get_or x.keptlinks v 0 → 1 ≤ get_or x.viewlinks v 0) (sym (same q)) (b.linked q v hq hv);
-        };
-        lasts = record {
-          lasting = λ q v hq hv h. ap (λ (x : Store). bit x.kept v) (same q) ∙ h;
-          contents = λ q v hq hv h. ap (λ (x : List Contents). get_or x (place q v) no_contents) c;
-          links = λ q k hq hk h. ap (λ (x : List Links). (get_or x (links_place q k) no_links).to) l;
-          linked = λ q v hq hv h. subst (λ (x : Store). 1 ≤ get_or x.keptlinks v 0) (sym (same q)) h;
-        };
-      }
+  beside n e f g = search rules
 
 -- 6: contents and viewlinks are written only where the working state has none, so where none last
 taken_carried : (m : State) → Unbroken m → Backed m → (p k r : ℕ) → PlaceOf m p k r → Carried m (with_taken m p k r)
@@ -111,7 +86,7 @@ taken_carried m s b p k r o =
       kept = λ u hu e. e;
       kept_link = λ u hu e. e;
       contents = at_place m.contents p v (written_contents (is_held m p v) c w) no_contents s.sized.contents hp hv (λ q u x. is_kept m q u ≡ true → x ≡ contents m q u)
-          (λ e. pick_case (λ (x : Contents). x ≡ c) (is_held m p v) c _ (λ f. refl) (λ f. not_both (is_held m p v) (b.held p v hp hv e) f)) (λ q u hq hu e. refl);
+          (λ e. pick_case (λ (x : Contents). x ≡ c) (is_held m p v) c _ (λ f. refl) (λ f. absurd (both_ways (is_held m p v) f (b.held p v hp hv e)))) (λ q u hq hu e. refl);
       links = at_links_place m.links p k (written_links r (is_held m p v) w l) no_links s.sized.links hp hk (λ q j x. is_kept m q (number j 0) ≡ true → x.to ≡ cause_links m q j)
           (λ e. ap (λ (x : Links). x.to) (stay (b.held p (number k 0) hp (omega arith) e))) (λ q j hq hj n e. refl);
     })
@@ -120,8 +95,8 @@ taken_carried m s b p k r o =
     stay h =
         pick_case (λ (x : Links). x ≡ get_or m.links (links_place p k) no_links) (is_held m p (number k r) || not (eqb r 0)) _ _ (λ e. refl)
         (λ e.
-        let z : r ≡ 0 = eqb-true r 0 (not-false (eqb r 0) (nor_right (is_held m p (number k r)) (not (eqb r 0)) e)) in
-        not_both (is_held m p (number k r)) (ap (λ (i : ℕ). is_held m p (number k i)) z ∙ h) (nor_left (is_held m p (number k r)) (not (eqb r 0)) e))
+        let z : r ≡ 0 = eqb-true r 0 (not-false (eqb r 0) (or_parts (is_held m p (number k r)) (not (eqb r 0)) e).1) in
+        absurd (both_ways (is_held m p (number k r)) (or_parts (is_held m p (number k r)) (not (eqb r 0)) e).0 (ap (λ (i : ℕ). is_held m p (number k i)) z ∙ h)))
 
 -- 11: a viewlink is written to a store
 updated_carried : (m : State) → Unbroken m → Backed m → (p k r : ℕ) → PlaceOf m p k r → Carried m (with_updated m p k r)
@@ -144,17 +119,7 @@ updated_carried m s b p k r o =
 
 restarted_carried : (m : State) → Unbroken m → Backed m → (p : ℕ) → p < m.stores → Carried m (restarted m p)
 unfolding restarted
-restarted_carried m s b p h =
-    let hp = store_8 m s p h in
-    written m s.sized.shelves b p hp (turned (shelf m p) true) m.contents m.links
-    (record {
-      held = λ v hv e. b.held p v hp hv e;
-      linked = λ v hv e. b.linked p v hp hv e;
-      kept = λ v hv e. e;
-      kept_link = λ v hv e. e;
-      contents = λ q v hq hv e. refl;
-      links = λ q j hq hj e. refl;
-    })
+restarted_carried m e f p g = search rules
 
 -- 15, 17: the two states become one, which has what lasted; what is swept lasted in neither
 module _ (m : State) (long : length m.shelves ≡ 8) (b : Backed m) (p : ℕ) (hp : p < 8) (t : Store) (same : t.held ≡ t.kept) (same_links : t.viewlinks ≡ t.keptlinks)
@@ -163,7 +128,7 @@ module _ (m : State) (long : length m.shelves ≡ 8) (b : Backed m) (p : ℕ) (h
   now = with_shelf m p t
 
   has_still : (v : ℕ) → v < 32 → is_kept m p v ≡ true → has_contents now p v ≡ true
-  has_still v hv e = ap (λ (x : Store). has_in x v) (shelf_same m.shelves p t long hp) ∙ or_second (bit t.held v) (bit t.kept v) (kept v hv e)
+  has_still v hv e = ap (λ (x : Store). has_in x v) (shelf_same m.shelves p t long hp) ∙ or_right (bit t.held v) (bit t.kept v) (kept v hv e)
 
   swept_carried : Carried m (swept now p)
   unfolding swept
@@ -206,29 +171,16 @@ pub lasts_still : (m : State) → Lasts m m
 lasts_still m = record { lasting = λ p v hp hv e. e; contents = λ p v hp hv e. refl; links = λ p k hp hk e. refl; linked = λ p v hp hv e. e }
 
 pub lasts_after : (m n o : State) → Lasts m n → Lasts n o → Lasts m o
-lasts_after m n o x y =
-    record {
-      lasting = λ p v hp hv e. y.lasting p v hp hv (x.lasting p v hp hv e);
-      contents = λ p v hp hv e. y.contents p v hp hv (x.lasting p v hp hv e) ∙ x.contents p v hp hv e;
-      links = λ p k hp hk e. y.links p k hp hk (x.lasting p (number k 0) hp (omega arith) e) ∙ x.links p k hp hk e;
-      linked = λ p v hp hv e. y.linked p v hp hv (x.linked p v hp hv e);
-    }
+lasts_after m n o e f = search rules
 
 after : (m n o : State) → (Backed m → Carried m n) → (Backed n → Carried n o) → Backed m → Carried m o
-after m n o f g b =
-    let x = f b in
-    let y = g x.backed in
-    record { backed = y.backed; lasts = lasts_after m n o x.lasts y.lasts }
+after m n o e f g = search rules
 
 step_carried : (m : State) (s : Step) → Backed m → Carried m (step_of m s).state
 step_carried = step_related (λ m n. Backed m → Carried m n) (λ m b. record { backed = b; lasts = lasts_still m }) after change_carried
 
 pub blank_backed : BlankBacked
-blank_backed m c =
-    record {
-      held = λ p v hp hv. subst (λ (x : Store). bit x.kept v ≡ true → bit x.held v ≡ true) (sym (c.shelves p hp)) (λ e. e);
-      linked = λ p v hp hv. subst (λ (x : Store). 1 ≤ get_or x.keptlinks v 0 → 1 ≤ get_or x.viewlinks v 0) (sym (c.shelves p hp)) (λ e. e);
-    }
+blank_backed = search rules
 
 pub step_backed : StepBacked
 step_backed m s b = (step_carried m s b).backed

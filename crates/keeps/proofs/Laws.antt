@@ -2,28 +2,28 @@
 use Prim.Native.Nat.{ℕ, ◌+◌, ◌≤◌}
 use mathlib.Core.Path.{◌≡◌, refl, sym, ap, subst, ◌∙◌}
 use mathlib.Core.Logic.{◌≢◌}
-use mathlib.Core.Bool.{Bool, true, false, true≢false}
+use mathlib.Core.Bool.{true, false}
 use mathlib.Core.List.{[], ◌∷◌}
 use native.Mathlib.Omega.{arith}
 use lib.ListN.{get_or, set, length-set}
 use lib.Seq.{get_or-set_same, get_or-set_other}
 use lib.Dec.{eqb}
 use borrow.Author.Tests.{eq-eqb, ne_eqb}
+use Rattle.std.proofs.lemmas.Bool.{both_ways}
+use Rattle.std.proofs.Common.{rules}
 use Rattle.protocol.specs.Words.{pick, bit, all_from, table}
-use Rattle.protocol.specs.Slots.{number, no_view, home, shelf, is_up, view, is_held, viewlink}
+use Rattle.protocol.specs.Slots.{number, no_view, shelf, is_up, view, is_held, viewlink}
 use Rattle.protocol.specs.Setup.{answered, legal_actor, legal_actors, legal, fresh_with}
 use Rattle.protocol.specs.Broken.{broken_of}
 use Rattle.protocol.specs.declared.State.{State}
 use Rattle.protocol.specs.declared.View.{View}
 use Rattle.protocol.specs.declared.Store.{Store}
-use Rattle.protocol.specs.Outcome.{Outcome}
 use Rattle.unbroken.proofs.Laws.{unbroken, only, fresh_unbroken}
 use Rattle.unbroken.proofs.Shelves.{shelf_same}
 use Rattle.unbroken.proofs.Laws.Has.{has_held}
-use Rattle.unbroken.proofs.Laws.Tests.{not_both}
 use Rattle.unbroken.proofs.Laws.Every.{table_at}
 use Rattle.unbroken.proofs.Laws.Says.{zero_splits}
-use Rattle.protocol.specs.Send.{home_link, sent_view, awaited_view, sent}
+use Rattle.protocol.specs.Send.{sent_view, awaited_view, sent}
 use Rattle.protocol.specs.Receive.{received_view, received_of}
 use Rattle.protocol.specs.TakeRecord.{taken_in, record_taken}
 use Rattle.protocol.specs.Sweep.{swept}
@@ -33,12 +33,12 @@ use Rattle.protocol.specs.Step.{number_of, after_of, rule_of, step_of}
 use Rattle.protocol.specs.declared.Step.{Step}
 use Rattle.protocol.specs.declared.Step.TheVariants.{TakeRecord, Crash, Restart}
 use Rattle.keeps.specs.Laws.{TakenExactly, TakenGives, RefusedGives, BrokenGives, TakenBy, AnswerZero, JointSame, MadeCounts, SendsNewKey, SendWritesLinks}
-use Rattle.keeps.specs.Laws.{ReceiveWritesLink, StoreWritesLinks, OneResult, made_by, marked, Program, RefuserOut, ConstantOut, PretenderOut, ResultsDiffer}
+use Rattle.keeps.specs.Laws.{ReceiveWritesLink, StoreWritesLinks, OneResult, marked, Program, RefuserOut, ConstantOut, PretenderOut, ResultsDiffer}
 use Rattle.keeps.proofs.Index.{same}
 use Rattle.keeps.proofs.Conditions.{taken_when, when_taken}
 use Rattle.keeps.proofs.Joins.{home_in_holds}
 use Rattle.keeps.proofs.Cases.{pick_case, step_case}
-use Rattle.keeps.proofs.Which.{Kind, a_send, another, kinds}
+use Rattle.keeps.proofs.Which.{kinds}
 use Rattle.keeps.proofs.Stores.{store_8, key_16, number_32, joined_has}
 use Rattle.keeps.proofs.Keeps.{every_kept}
 
@@ -75,11 +75,7 @@ answer_zero m s =
 -- the number of interactions
 pub made_counts : MadeCounts
 unfolding sent
-made_counts m s = go (kinds s)
-  where
-    go : Kind s → (after_of m s).made ≡ made_by m s
-    go (a_send from to own word causes e) = subst (λ (x : Step). (after_of m x).made ≡ made_by m x) (sym e) refl
-    go (another o) = o.made m ∙ sym (ap (λ (b : Bool). pick b (m.made + 1) m.made) o.other)
+made_counts = search (rules, kinds)
 
 pub sends_new_key : SendsNewKey
 unfolding sent
@@ -99,16 +95,7 @@ sends_new_key m from to own word causes e c =
 
 -- the links
 pub send_writes_links : SendWritesLinks
-send_writes_links m from to own word causes e c =
-    let s = unbroken m e in
-    let at = (sends_new_key m from to own word causes e c).sender in
-    record {
-      viewlink = ap (λ (x : View). x.viewlink) at;
-      viewlink_in = home_in_holds m s to c.to_in;
-      link = λ j h b. ap (λ (x : View). get_or x.links j 0) at ∙ table_at (home_link causes (home m from)) 16 0 j h
-          ∙ pick_case (λ (n : ℕ). n ≡ home m from) (bit causes j) (home m from) 0 (λ f. refl) (λ f. not_both (bit causes j) b f);
-      link_in = home_in_holds m s from c.from_in;
-    }
+send_writes_links = search (rules, unbroken, sends_new_key, home_in_holds, table_at, pick_case, both_ways)
 
 pub receive_writes_link : ReceiveWritesLink
 unfolding received_of
@@ -180,19 +167,10 @@ pub refuser_out : (f : Program) → RefuserOut f
 refuser_out f refuses e = refuses marked (Crash 0) (ap (λ x. x.answer) (e ∙ crash_step))
 
 pub constant_out : (f : Program) → ConstantOut f
-constant_out f n same e g =
-    let a : n ≡ 0 = sym (same marked (Crash 0)) ∙ ap (λ x. x.answer) (e ∙ crash_step) in
-    let b : n ≡ 6 = sym (same marked (Restart 0)) ∙ ap (λ x. x.answer) (g ∙ restart_step) in
-    absurd (omega arith)
+constant_out f = search (rules, same, crash_step, restart_step)
 
 pub pretender_out : (f : Program) → PretenderOut f
-pretender_out f idle e =
-    let q : marked ≡ crashed marked 0 = ap (λ x. x.state) (sym (idle marked (Crash 0)) ∙ e ∙ crash_step) in
-    absurd (true≢false (sym up_before ∙ ap (λ (m : State). is_up m 0) q ∙ up_after))
+pretender_out f = search (rules, crash_step, up_before, up_after)
 
 pub results_differ : ResultsDiffer
-results_differ =
-    (λ e. differ (sym crash_step ∙ e ∙ restart_step), λ e. differ (sym crash_rule ∙ e ∙ restart_rule))
-  where
-    differ : answered 0 (crashed marked 0) ≢ answered 6 marked
-    differ e = let n : ◌≡◌ {A = ℕ} 0 6 = ap (λ (x : Outcome). x.answer) e in absurd (omega arith)
+results_differ = search (rules, crash_step, restart_step, crash_rule, restart_rule)

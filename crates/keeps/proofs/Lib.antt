@@ -20,3 +20,4 @@ pub mod Onward
 pub mod Lasting
 pub mod Laws
 pub mod Applies
+pub mod Numbers

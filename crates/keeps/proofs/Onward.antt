@@ -2,11 +2,13 @@
 use Prim.Native.Nat.{ℕ, zero, suc, ◌*◌, ◌-◌, ◌≤◌, ◌<◌}
 use mathlib.Core.Path.{◌≡◌, refl, sym, ap, subst, ◌∙◌}
 use mathlib.Core.Logic.{◌≢◌}
-use mathlib.Core.Bool.{Bool, true, false}
+use mathlib.Core.Bool.{true, false}
 use mathlib.Core.List.{List}
 use native.Mathlib.Omega.{arith}
 use lib.ListN.{length, get_or, set, length-set}
 use lib.Seq.{get_or-set_other}
+use Rattle.std.proofs.lemmas.Bool.{both_ways}
+use Rattle.std.proofs.Common.{rules}
 use Rattle.protocol.specs.Slots.{number, no_view, no_entry, no_repair, status_number, view, repair, entry}
 use Rattle.protocol.specs.Writes.{with_view, with_entry}
 use Rattle.unbroken.specs.Unbroken.{Unbroken}
@@ -15,25 +17,23 @@ use Rattle.protocol.specs.declared.View.{View}
 use Rattle.protocol.specs.declared.Entry.{Entry}
 use Rattle.protocol.specs.declared.Repair.{Repair}
 use Rattle.protocol.specs.declared.Status.{Status}
-use Rattle.unbroken.proofs.Laws.Tests.{not_both}
 use Rattle.protocol.specs.Closed.{rests_of, closed_of}
 use Rattle.unbroken.proofs.Laws.{unbroken}
 use Rattle.unbroken.proofs.Laws.Room.{made_view_holds}
-use Rattle.unbroken.proofs.Laws.Says.{Says, eq_says, eq_splits, is_splits, and_says, not_says, put_says}
+use Rattle.unbroken.proofs.Laws.Says.{Says, and_says, put_says}
 use Rattle.protocol.specs.Views.{phased}
 use Rattle.protocol.specs.Rule.{head, head_view}
-use Rattle.protocol.specs.Timeout.{is_current}
-use Rattle.protocol.specs.Send.{sent_view, awaited_view, sent}
+use Rattle.protocol.specs.Send.{sent}
 use Rattle.protocol.specs.Receive.{received_view, received_of}
 use Rattle.protocol.specs.Sweep.{swept}
 use Rattle.protocol.specs.Crash.{crashed}
 use Rattle.protocol.specs.Restart.{restarted}
 use Rattle.protocol.specs.Checkpoint.{checkpointed}
-use Rattle.protocol.specs.PostCheck.{asked_repair, post_checked}
+use Rattle.protocol.specs.PostCheck.{post_checked}
 use Rattle.protocol.specs.TakeRepair.{entered, repaired_entry, redirected_entry, repair_taken}
 use Rattle.protocol.specs.SendUpdate.{in_status}
 use Rattle.keeps.specs.Taken.{HeadIn, SendTaken, ReceiveTaken, TakeRepairTaken}
-use Rattle.keeps.specs.Change.{HeadMove, is_checked, is_sent, is_timed, is_acked, StatusMove, is_waiting, is_expired, is_done}
+use Rattle.keeps.specs.Change.{HeadMove, is_checked, is_sent, is_timed, is_acked, StatusMove}
 use Rattle.keeps.specs.Change.{Change, on_send, on_receive, on_head, on_settle, on_flight, on_taken, on_updated, on_status, on_repair, on_crash, on_restart, on_checkpoint}
 use Rattle.keeps.specs.Onward.{ViewOn, Onward, Resting, Closed, ClosedSays, StepOnward, ClosedStays}
 use Rattle.keeps.proofs.Index.{at_index}
@@ -44,19 +44,7 @@ use Rattle.keeps.proofs.Changes.{change_kept, step_related, step_has}
 
 -- a record that stays as it is, and one change after another
 view_still : (w : View) → ViewOn w w
-view_still w =
-    record {
-      actor = refl;
-      phase = λ c n h. h;
-      word = λ h. refl;
-      causes = λ h. refl;
-      viewlink = λ h. refl;
-      changed = λ h e. e;
-      links = λ h. refl;
-      store = λ h. refl;
-      unmoved = λ h. refl;
-      settled = λ e. refl;
-    }
+view_still w = search rules
 
 view_after : (w x y : View) → ViewOn w x → ViewOn x y → ViewOn w y
 view_after w x y a b =
@@ -77,16 +65,7 @@ view_after w x y a b =
     }
 
 pub still : (m : State) → Onward m m
-still m =
-    record {
-      stores = refl;
-      actors = refl;
-      homes = refl;
-      lists = refl;
-      made = omega arith;
-      views = λ v h. view_still (view m v);
-      entered = λ v hv h. h;
-    }
+still m = search rules
 
 pub after : (m n o : State) → Onward m n → Onward n o → Onward m o
 after m n o a b =
@@ -104,107 +83,19 @@ after m n o a b =
 
 -- the head of a queue goes on
 head_on : (m : State) (a : ℕ) (w : View) → HeadMove m a w → ViewOn (head_view m a) w
-head_on m a w (is_checked h) =
-    let e = h.head_phase in
-    record {
-      actor = refl;
-      phase = λ c n b. omega arith;
-      word = λ b. refl;
-      causes = λ b. refl;
-      viewlink = λ b. refl;
-      changed = λ b f. f;
-      links = λ b. absurd (omega arith);
-      store = λ b. refl;
-      unmoved = λ b. refl;
-      settled = λ f. absurd (omega arith);
-    }
-head_on m a w (is_sent h) =
-    let e = h.head_phase in
-    record {
-      actor = refl;
-      phase = λ c n b. omega arith;
-      word = λ b. refl;
-      causes = λ b. refl;
-      viewlink = λ b. refl;
-      changed = λ b f. f;
-      links = λ b. refl;
-      store = λ b. refl;
-      unmoved = λ b. refl;
-      settled = λ f. absurd (omega arith);
-    }
-head_on m a w (is_timed p t) =
-    let e = t.head.head_phase in
-    record {
-      actor = refl;
-      phase = λ c n b. omega arith;
-      word = λ b. refl;
-      causes = λ b. refl;
-      viewlink = λ b. refl;
-      changed = λ b f. pick_case (λ (c : Bool). c ≡ true) (is_current p (head_view m a)) (head_view m a).changed true (λ e. f) (λ e. refl);
-      links = λ b. refl;
-      store = λ b. absurd (omega arith);
-      unmoved = λ b. absurd (omega arith);
-      settled = λ f. absurd (omega arith);
-    }
-head_on m a w (is_acked p h e c) =
-    let f = h.head_phase in
-    record {
-      actor = refl;
-      phase = λ d n b. omega arith;
-      word = λ b. refl;
-      causes = λ b. refl;
-      viewlink = λ b. refl;
-      changed = λ b g. g;
-      links = λ b. refl;
-      store = λ b. refl;
-      unmoved = λ b. refl;
-      settled = λ g. absurd (omega arith);
-    }
+head_on m a w e = search rules
 
 settle_on : (w : View) → w.phase ≡ 4 → ViewOn w (phased 5 w)
-settle_on w e =
-    record {
-      actor = refl;
-      phase = λ c n b. omega arith;
-      word = λ b. refl;
-      causes = λ b. refl;
-      viewlink = λ b. refl;
-      changed = λ b f. f;
-      links = λ b. refl;
-      store = λ b. refl;
-      unmoved = λ b. refl;
-      settled = λ f. absurd (omega arith);
-    }
+settle_on w e = search rules
 
 receive_on : (m : State) (k : ℕ) → (view m (number k 1)).phase ≡ 0 → ViewOn (view m (number k 1)) (received_view m k)
-receive_on m k e =
-    record {
-      actor = refl;
-      phase = λ c n b. omega arith;
-      word = λ b. absurd (omega arith);
-      causes = λ b. absurd (omega arith);
-      viewlink = λ b. absurd (omega arith);
-      changed = λ b. absurd (omega arith);
-      links = λ b. absurd (omega arith);
-      store = λ b. absurd (omega arith);
-      unmoved = λ b. absurd (omega arith);
-      settled = λ f. absurd (omega arith);
-    }
+receive_on m k e = search rules
 
 -- of the arrays that speak of the past only the views are written, and each goes on
 views_onward : (m n : State) → n.stores ≡ m.stores → n.actors ≡ m.actors → n.homes ≡ m.homes → n.lists ≡ m.lists → m.made ≤ n.made
     → ((v : ℕ) → v < m.made * 2 → ViewOn (view m v) (view n v))
     → n.entries ≡ m.entries → Onward m n
-views_onward m n s₁ s₂ s₃ s₄ more on e =
-    record {
-      stores = s₁;
-      actors = s₂;
-      homes = s₃;
-      lists = s₄;
-      made = more;
-      views = on;
-      entered = λ v hv b. subst (λ (x : List Entry). 1 ≤ status_number (get_or x v no_entry).status) (sym e) b;
-    }
+views_onward m n e f g h i j k = search rules
 
 module _ (m : State) (s : Unbroken m) where
   one_view : (u : ℕ) → u < 32 → (w : View) → ViewOn (view m u) w → (v : ℕ) → v < m.made * 2 → ViewOn (view m v) (get_or (set m.views u w) v no_view)
@@ -214,14 +105,7 @@ module _ (m : State) (s : Unbroken m) where
 
   send_onward : (from to own word causes : ℕ) → SendTaken m from to own causes → Onward m (sent m from to own word causes)
   unfolding sent
-  send_onward from to own word causes c =
-      let w = sent_view m from to own word causes in
-      let k = m.made in
-      views_onward m (sent m from to own word causes) refl refl refl refl (omega arith)
-      (λ v h. subst (ViewOn (view m v))
-      (sym (get_or-set_other (set m.views (number k 0) w) (number k 1) v (awaited_view to) no_view (omega arith) ∙ get_or-set_other m.views (number k 0) v w no_view (omega arith)))
-      (view_still (view m v)))
-      refl
+  send_onward from to own word causes e = search rules
 
   receive_onward : (k : ℕ) → ReceiveTaken m k → Onward m (received_of m k)
   unfolding received_of
@@ -239,22 +123,11 @@ module _ (m : State) (s : Unbroken m) where
 
   settle_onward : (a : ℕ) → HeadIn 4 m a → Onward m (post_checked m a)
   unfolding post_checked
-  settle_onward a h =
-      views_onward m (post_checked m a) refl refl refl refl (omega arith)
-      (one_view (head m a) (head_32 m s a h.actor_in h.queued) (phased 5 (head_view m a)) (settle_on (head_view m a) h.head_phase)) refl
+  settle_onward a e = search (rules, views_onward, one_view, head_32, settle_on)
 
 -- an entry stays an entry
 entry_onward : (m : State) → length m.entries ≡ 32 → (u : ℕ) → u < 32 → (e : Entry) → (1 ≤ status_number (entry m u).status → 1 ≤ status_number e.status) → Onward m (with_entry m u e)
-entry_onward m long u hu e f =
-    record {
-      stores = refl;
-      actors = refl;
-      homes = refl;
-      lists = refl;
-      made = omega arith;
-      views = λ v h. view_still (view m v);
-      entered = at_index m.entries 32 u e no_entry long hu (λ i x. 1 ≤ status_number (entry m i).status → 1 ≤ status_number x.status) f (λ i hi h. h);
-    }
+entry_onward m f u g e h = search rules
 
 -- .. also where the opposite view's repair redirects it
 repair_onward : (m : State) → Unbroken m → (k r : ℕ) → TakeRepairTaken m k r → Onward m (repair_taken m k r)
@@ -293,9 +166,7 @@ beside_onward m n s₁ s₂ s₃ s₄ k w e =
 
 -- a status that was to-send or waiting is one of an entry
 status_from : (m : State) (v : ℕ) (t : Status) → StatusMove m v t → (1 ≤ status_number t) × (1 ≤ status_number (entry m v).status) × (status_number (entry m v).status ≤ 2)
-status_from m v t (is_waiting e) = let n = ap status_number e in (omega arith, omega arith, omega arith)
-status_from m v t (is_expired e) = let n = ap status_number e in (omega arith, omega arith, omega arith)
-status_from m v t (is_done p hp e d c) = let n = ap status_number e in (omega arith, omega arith, omega arith)
+status_from m v t e = search rules
 
 pub change_onward : (m n : State) → Unbroken m → Change m n → Onward m n
 unfolding swept crashed restarted checkpointed
@@ -320,26 +191,14 @@ step_onward = step_related Onward still after change_onward
 module _ (m : State) (s : Unbroken m) (k : ℕ) (rests : (r : ℕ) → r < 2 → Resting m (number k r)) where
   settle_rests : (a : ℕ) → HeadIn 4 m a → (r : ℕ) → r < 2 → (repair (post_checked m a) (number k r)).flying ≡ false
   unfolding post_checked
-  settle_rests a h r hr =
-      let q = rests r hr in
-      let e = h.head_phase in
-      let five = q.phase in
-      let away : number k r ≢ head m a = λ f. let z = ap (λ (v : ℕ). (view m v).phase) f in absurd (omega arith) in
-      ap (λ (x : Repair). x.flying) (get_or-set_other m.repairs (head m a) (number k r) (asked_repair (repair m (head m a)) (head_view m a)) no_repair away) ∙ q.repair
+  settle_rests a e r f = grind (arith, get_or-set_other)
 
   status_rests : (j i : ℕ) (t : Status) → StatusMove m (number j i) t → (r : ℕ) → r < 2 → entry (with_entry m (number j i) (in_status t (entry m (number j i)))) (number k r) ≡ entry m (number k r)
-  status_rests j i t c r hr =
-      let q = rests r hr in
-      let b = status_from m (number j i) t c in
-      let low = b.1 in
-      let high = b.2 in
-      let first = q.due in
-      let second = q.awaited in
-      get_or-set_other m.entries (number j i) (number k r) (in_status t (entry m (number j i))) no_entry (λ f. let z = ap (λ (v : ℕ). status_number (entry m v).status) f in absurd (omega arith))
+  status_rests j i t e r f = grind (arith, status_from, get_or-set_other)
 
   module _ (j i : ℕ) (c : TakeRepairTaken m j i) where
     apart : (r : ℕ) → r < 2 → number k r ≢ number j i
-    apart r hr f = not_both (repair m (number j i)).flying c.flying (ap (λ (u : ℕ). (repair m u).flying) (sym f) ∙ (rests r hr).repair)
+    apart r hr f = absurd (both_ways (repair m (number j i)).flying (ap (λ (u : ℕ). (repair m u).flying) (sym f) ∙ (rests r hr).repair) c.flying)
 
     repair_rests : (r : ℕ) → r < 2 → (repair (repair_taken m j i) (number k r)).flying ≡ false
     unfolding repair_taken
@@ -387,17 +246,7 @@ module _ (m : State) (s : Unbroken m) (k : ℕ) (rests : (r : ℕ) → r < 2 →
   change_entry n (on_checkpoint p h up) r hr = refl
 
   change_rests : k < m.made → (n : State) → Change m n → (r : ℕ) → r < 2 → Resting n (number k r)
-  change_rests hk n c r hr =
-      let q = rests r hr in
-      let same = change_entry n c r hr in
-      let first = q.due in
-      let second = q.awaited in
-      record {
-        phase = ap (λ (x : View). x.phase) (((change_onward m n s c).views (number k r) (omega arith)).settled q.phase) ∙ q.phase;
-        repair = change_repair n c r hr;
-        due = λ e. first (sym (ap (λ (x : Entry). status_number x.status) same) ∙ e);
-        awaited = λ e. second (sym (ap (λ (x : Entry). status_number x.status) same) ∙ e);
-      }
+  change_rests e n f r g = search (rules, change_entry, change_onward, change_repair)
 
 pub closed_change : (k : ℕ) (m n : State) → Unbroken m → Change m n → Closed m k → Closed n k
 closed_change k m n s c d =
@@ -414,11 +263,7 @@ closed_change k m n s c d =
 
 -- the test for closed says that
 rests_say : (m : State) (v : ℕ) → Says (rests_of m v) (Resting m v)
-rests_say m v =
-    let n = status_number (entry m v).status in
-    put_says (and_says (and_says (and_says (eq_says (view m v).phase 5) (not_says (is_splits (repair m v).flying))) (not_says (eq_splits n 1))) (not_says (eq_splits n 2)))
-    (λ x. record { phase = x.0.0.0; repair = x.0.0.1; due = x.0.1; awaited = x.1 })
-    (λ y. (((y.phase, y.repair), y.due), y.awaited))
+rests_say m v = search rules
 
 closed_slots : (m : State) (k : ℕ) → Unbroken m → Says (closed_of m k) (Closed m k)
 unfolding closed_of

@@ -1,14 +1,15 @@
 -- A queue that a view has joined, and one that its head has left: what stands where, and how often. Assumes nothing.
-use Prim.Native.Nat.{ℕ, suc, ◌+◌, ◌-◌, ◌≤◌, ◌<◌}
-use mathlib.Core.Path.{◌≡◌, refl, sym, ap, ◌∙◌}
+use Prim.Native.Nat.{ℕ, suc, ◌+◌, ◌≤◌, ◌<◌}
+use mathlib.Core.Path.{◌≡◌, sym, ap, ◌∙◌}
 use mathlib.Core.Logic.{◌≢◌}
 use mathlib.Core.List.{List, [], ◌∷◌, ◌++◌}
 use native.Mathlib.Omega.{arith}
 use lib.ListN.{length, get_or, set, take, drop, length-set, length-append, length-drop, get_or-append}
-use lib.Seq.{get_or-drop, get_or-append_seam, get_or-set_same, get_or-set_other, take-append-le, take-suc-set}
-use lib.Dec.{eqb}
+use lib.Seq.{get_or-drop, get_or-append_seam, get_or-set_other, take-append-le, take-suc-set}
 use borrow.Author.Tests.{eq-eqb, ne_eqb}
-use Rattle.protocol.specs.Words.{one, times}
+use Rattle.std.proofs.Common.{rules}
+use Rattle.protocol.specs.Words.{times}
+use Rattle.unbroken.proofs.Laws.Counting.{times_last}
 use Rattle.protocol.specs.Slots.{standing}
 use Rattle.protocol.specs.declared.Queue.{Queue}
 use Rattle.protocol.specs.PostCheck.{left}
@@ -32,43 +33,22 @@ module _ (q : Queue) (long : length q.views ≡ 16) where
   pub joined_long : (v : ℕ) → length (joined q v).views ≡ 16
   joined_long v = length-set q.views q.len v ∙ long
 
-  pub joined_last : (v : ℕ) → q.len < 16 → get_or (joined q v).views q.len 0 ≡ v
-  joined_last v h = get_or-set_same q.views q.len v 0 (omega arith)
-
   pub joined_at : (v i : ℕ) → i ≢ q.len → get_or (joined q v).views i 0 ≡ get_or q.views i 0
   joined_at v i n = get_or-set_other q.views q.len i v 0 n
 
   joined_standing : (v : ℕ) → q.len < 16 → standing (joined q v) ≡ standing q ++ (v ∷ [])
   joined_standing v h = let e : q.len + 1 ≡ suc q.len = omega arith in ap (λ (n : ℕ). take n (set q.views q.len v)) e ∙ take-suc-set q.views q.len v (omega arith)
 
-times_last : (u v : ℕ) (l : List ℕ) → times u (l ++ (v ∷ [])) ≡ times u l + one (eqb v u)
-unfolding times
-times_last u v [] = omega arith
-times_last u v (x ∷ xs) = let r = times_last u v xs in omega arith
-
 pub joined_times : (q : Queue) → length q.views ≡ 16 → (u v : ℕ) → q.len < 16 → u ≢ v → times u (standing (joined q v)) ≡ times u (standing q)
-joined_times q long u v h n =
-    let e = ap (times u) (joined_standing q long v h) ∙ times_last u v (standing q) in
-    let o : one (eqb v u) ≡ 0 = ap one (ne_eqb v u (λ f. n (sym f))) in
-    omega arith
+joined_times q e u v f g = search (rules, joined_standing, times_last, ne_eqb)
 
 pub joined_once : (q : Queue) → length q.views ≡ 16 → (v : ℕ) → q.len < 16 → times v (standing q) ≡ 0 → times v (standing (joined q v)) ≡ 1
-joined_once q long v h z =
-    let e = ap (times v) (joined_standing q long v h) ∙ times_last v v (standing q) in
-    let o : one (eqb v v) ≡ 1 = ap one (eq-eqb v v refl) in
-    omega arith
+joined_once q e v f g = search (rules, joined_standing, times_last, eq-eqb)
 
 -- a view that isn't the head stands as often when the head has left
 left_list : (u n : ℕ) (l : List ℕ) → length l ≡ 16 → suc n ≤ 16 → get_or l 0 0 ≢ u → times u (take n (drop 1 l ++ (0 ∷ []))) ≡ times u (take (suc n) l)
 unfolding times
-left_list u n [] long h d = absurd (omega arith)
-left_list u n (x ∷ xs) long h d =
-    let o : one (eqb x u) ≡ 0 = ap one (ne_eqb x u d) in
-    let t : times u (take n (xs ++ (0 ∷ []))) ≡ times u (take n xs) = ap (times u) (take-append-le n xs (0 ∷ []) (omega arith)) in
-    omega arith
+left_list u n l e f g = search (rules, ne_eqb, take-append-le)
 
 pub left_times : (q : Queue) → length q.views ≡ 16 → (u : ℕ) → 1 ≤ q.len → q.len ≤ 16 → get_or q.views 0 0 ≢ u → times u (standing (left q)) ≡ times u (standing q)
-left_times q long u some few d =
-    let n = q.len - 1 in
-    let e : suc n ≡ q.len = omega arith in
-    left_list u n q.views long (omega arith) d ∙ ap (λ (k : ℕ). times u (take k q.views)) e
+left_times q e u f g h = search (rules, left_list)

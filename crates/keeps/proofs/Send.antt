@@ -1,5 +1,5 @@
 -- Step 1 keeps every slot: the sender's record joins the queue, the receiver's waits, and the message is in flight. Assumes nothing.
-use Prim.Native.Nat.{ℕ, ◌+◌, ◌-◌, ◌/◌, ◌≤◌, ◌<◌}
+use Prim.Native.Nat.{ℕ, ◌+◌, ◌-◌, ◌≤◌, ◌<◌}
 use mathlib.Core.Path.{◌≡◌, refl, sym, ap, subst, ◌∙◌}
 use mathlib.Core.Logic.{◌≢◌}
 use mathlib.Core.Bool.{true, true≢false}
@@ -8,13 +8,14 @@ use native.Mathlib.Omega.{arith}
 use native.Mathlib.Decide.{ℕ_discrete}
 use lib.ListN.{length, get_or, set, length-set}
 use lib.Seq.{get_or-set_same, get_or-set_other}
+use Rattle.std.proofs.lemmas.Bool.{both_ways}
+use Rattle.std.proofs.Common.{rules}
 use Rattle.protocol.specs.Words.{bit}
 use Rattle.protocol.specs.Slots.{number, no_view, no_message, view, queue, message, home}
 use Rattle.unbroken.specs.Unbroken.{ViewSlot, MessageSlot, Unbroken}
 use Rattle.protocol.specs.declared.State.{State}
 use Rattle.protocol.specs.declared.View.{View}
 use Rattle.protocol.specs.declared.Message.{Message}
-use Rattle.unbroken.proofs.Laws.Tests.{not_both}
 use Rattle.unbroken.proofs.Laws.Every.{length_table, table_at}
 use Rattle.unbroken.proofs.Laws.Room.{actors8, bounds_of}
 use Rattle.unbroken.proofs.Laws.Fresh.{no_causes}
@@ -58,10 +59,7 @@ module _ (m : State) (s : Unbroken m) (from to own word causes : ℕ) (c : SendT
   at_receiver = let b = room in let l = inner_long in get_or-set_same (set m.views (number k 0) sender) (number k 1) receiver no_view (omega arith)
 
   at_sender : get_or views (number k 0) no_view ≡ sender
-  at_sender =
-      let b = room in
-      let l = s.sized.views in
-      get_or-set_other (set m.views (number k 0) sender) (number k 1) (number k 0) receiver no_view (omega arith) ∙ get_or-set_same m.views (number k 0) sender no_view (omega arith)
+  at_sender = search rules
 
   others : (u : ℕ) → u ≢ number k 0 → u ≢ number k 1 → get_or views u no_view ≡ view m u
   others u n n' = get_or-set_other (set m.views (number k 0) sender) (number k 1) u receiver no_view n' ∙ get_or-set_other m.views (number k 0) u sender no_view n
@@ -80,8 +78,8 @@ module _ (m : State) (s : Unbroken m) (from to own word causes : ℕ) (c : SendT
           long = length_table (home_link causes (home m from)) 16;
           below = λ j h b. let i = (c.known j h b).key_in in omega arith;
           link_in = λ j h b. subst (λ (n : ℕ). n < m.stores) (sym (link_at j h))
-              (pick_case (λ (n : ℕ). n < m.stores) (bit causes j) _ _ (λ e. home_in_holds m s from c.from_in) (λ e. not_both (bit causes j) b e));
-          link_blank = λ j h b. link_at j h ∙ pick_case (λ (n : ℕ). n ≡ 0) (bit causes j) _ _ (λ e. not_both (bit causes j) e b) (λ e. refl);
+              (pick_case (λ (n : ℕ). n < m.stores) (bit causes j) _ _ (λ e. home_in_holds m s from c.from_in) (λ e. absurd (both_ways (bit causes j) e b)));
+          link_blank = λ j h b. link_at j h ∙ pick_case (λ (n : ℕ). n ≡ 0) (bit causes j) _ _ (λ e. absurd (both_ways (bit causes j) b e)) (λ e. refl);
         };
         store_in = λ h. c.own_in;
         viewlink_in = λ h. home_in_holds m s to c.to_in;
@@ -97,21 +95,7 @@ module _ (m : State) (s : Unbroken m) (from to own word causes : ℕ) (c : SendT
       }
 
   receiver_slot : (before : ℕ) → before ≡ from → ViewSlot m.stores m.actors (k + 1) before (number k 1) receiver
-  receiver_slot before same =
-      record {
-        causes = no_causes m.stores (number k 1 / 2);
-        store_in = λ h. absurd (omega arith);
-        viewlink_in = λ h. absurd (omega arith);
-        tries3 = λ h. absurd (omega arith);
-        unset = λ e. refl;
-        actor_in = λ h. c.to_in;
-        phase5 = λ h. omega arith;
-        sender_made = λ h r. absurd (omega arith);
-        receiver_causes = λ h r. refl;
-        two_actors = λ h r e. c.others (sym same ∙ sym e);
-        actor_blank = λ h. absurd (omega arith);
-        phase_blank = λ h. refl;
-      }
+  receiver_slot before e = search (rules, no_causes)
 
   -- the other views, with one interaction more
   other_slot : (u : ℕ) → u < 32 → u ≢ number k 0 → u ≢ number k 1 → ViewSlot m.stores m.actors (k + 1) (get_or views (u - 1) no_view).actor u (view m u)

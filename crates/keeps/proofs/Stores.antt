@@ -2,18 +2,21 @@
 -- in flight: each slot is as it must be. Assumes nothing.
 use Prim.Native.Nat.{ℕ, ◌+◌, ◌-◌, ◌≤◌, ◌<◌}
 use mathlib.Core.Path.{◌≡◌, refl, sym, ap, subst, ◌∙◌}
-use mathlib.Core.Logic.{◌≢◌}
+use mathlib.Core.Logic.{◌≢◌, ⊎_elim}
 use mathlib.Core.Bool.{Bool, true, false, ◌||◌, not}
 use mathlib.Core.List.{List}
 use native.Mathlib.Omega.{arith}
 use native.Mathlib.Decide.{ℕ_discrete}
 use lib.ListN.{get_or, set, length-set}
 use lib.Seq.{get_or-set_same, get_or-set_other}
-use lib.Dec.{eqb, ltb}
-use borrow.Author.Tests.{ltb-true, eq-eqb, ne_eqb, eqb-true, eqb-false, not-true, not-false}
+use lib.Dec.{eqb}
+use borrow.Author.Tests.{eq-eqb, ne_eqb, eqb-true, eqb-false, not-true, not-false}
+use Rattle.std.proofs.lemmas.Bool.{both_ways, or_cases, or_left, or_parts, or_right}
+use Rattle.std.proofs.Math.Bool.{or-false}
+use Rattle.std.proofs.Common.{rules}
 use Rattle.protocol.specs.Words.{pick, bit, joined}
 use Rattle.protocol.specs.Slots.{number, place, links_place, no_contents, no_links, no_store, status_number, shelf, view, entry, contents, record_copies, update_copies, is_held, is_kept, viewlink, owes_ack, owes_uack}
-use Rattle.protocol.specs.Stores.{turned, thrown_back, saved}
+use Rattle.protocol.specs.Stores.{thrown_back, saved}
 use Rattle.protocol.specs.Setup.{blank_links}
 use Rattle.protocol.specs.Broken.{has_in}
 use Rattle.protocol.specs.Sweep.{has_contents, swept_contents, swept_links, swept}
@@ -23,7 +26,6 @@ use Rattle.protocol.specs.declared.State.{State}
 use Rattle.protocol.specs.declared.Contents.{Contents}
 use Rattle.protocol.specs.declared.Links.{Links}
 use Rattle.protocol.specs.declared.Store.{Store}
-use Rattle.unbroken.proofs.Laws.Tests.{not_both, nor_right, or_none, or_first, or_second, or_cases}
 use Rattle.unbroken.proofs.Laws.Bits.{joined_bit, no_bit}
 use Rattle.unbroken.proofs.Laws.Has.{has_held, has_kept}
 use Rattle.unbroken.proofs.Laws.Room.{stores8}
@@ -46,13 +48,7 @@ pub other_copies : {stores p least at n : ℕ} → CopySlot stores p least at n 
 other_copies c some k few = record { copies15 = few; at_store = λ h. c.at_store some; at_view = λ h. c.at_view some }
 
 pub more_copies : {stores p least at n : ℕ} → CopySlot stores p least at n → p < stores → least ≤ at → CopySlot stores p least at (more n)
-more_copies {stores} {p} {least} {at} {n} c hp hl =
-    let t = c.copies15 in
-    record {
-      copies15 = pick_case (λ (k : ℕ). k ≤ 15) (ltb n 15) (n + 1) n (λ e. let b = ltb-true n 15 e in omega arith) (λ e. t);
-      at_store = λ h. hp;
-      at_view = λ h. hl;
-    }
+more_copies e f g = search rules
 
 owed_copies : {stores p least at n : ℕ} (owes : Bool) → CopySlot stores p least at n → p < stores → (owes ≡ true → least ≤ at) → CopySlot stores p least at (pick owes (more n) n)
 owed_copies {stores} {p} {least} {at} {n} owes c hp hl = pick_case (CopySlot stores p least at) owes (more n) n (λ e. more_copies c hp (hl e)) (λ e. c)
@@ -63,29 +59,20 @@ row_write {stores} {made} {p} {row} v n hv o c =
     record { long = length-set row v n ∙ o.long; link_at = at_index row 32 v n 0 o.long hv (ViewlinkSlot stores made p) c o.link_at }
 
 there_slot : {stores made p : ℕ} (t : Store) → p < stores → RowSlot stores made p t.viewlinks → RowSlot stores made p t.keptlinks → StoreSlot stores made p t
-there_slot t h a b =
-    record {
-      up_blank = λ e. absurd (omega arith);
-      held_blank = λ e. absurd (omega arith);
-      kept_blank = λ e. absurd (omega arith);
-      acks_blank = λ e. absurd (omega arith);
-      uacks_blank = λ e. absurd (omega arith);
-      working = a;
-      checkpointed = b;
-    }
+there_slot t e f g = search rules
 
 -- a set that a view joins
 pub joined_has : (w v : ℕ) → bit (joined w v) v ≡ true
-joined_has w v = joined_bit w v v ∙ or_second (bit w v) (eqb v v) (eq-eqb v v refl)
+joined_has w v = joined_bit w v v ∙ or_right (bit w v) (eqb v v) (eq-eqb v v refl)
 
 pub joined_beside : (w v u : ℕ) → u ≢ v → bit (joined w v) u ≡ bit w u
-joined_beside w v u n = joined_bit w v u ∙ (ap (λ (b : Bool). bit w u || b) (ne_eqb v u (λ e. n (sym e))) ∙ or_none (bit w u))
+joined_beside w v u n = joined_bit w v u ∙ (ap (λ (b : Bool). bit w u || b) (ne_eqb v u (λ e. n (sym e))) ∙ or-false (bit w u))
 
 pub joined_stays : (w v u : ℕ) → bit w u ≡ true → bit (joined w v) u ≡ true
-joined_stays w v u e = joined_bit w v u ∙ or_first (bit w u) (eqb v u) e
+joined_stays w v u e = joined_bit w v u ∙ or_left (bit w u) (eqb v u) e
 
 joined_cases : {P : Type 0} (w v u : ℕ) → bit (joined w v) u ≡ true → (u ≡ v → P) → (bit w u ≡ true → P) → P
-joined_cases w v u e f g = or_cases (bit w u) (eqb v u) (sym (joined_bit w v u) ∙ e) g (λ h. f (sym (eqb-true v u h)))
+joined_cases w v u e f g = ⊎_elim g (λ h. f (sym (eqb-true v u h))) (or_cases (bit w u) (eqb v u) (sym (joined_bit w v u) ∙ e))
 
 module _ (m : State) (s : Unbroken m) where
   pub store_8 : (p : ℕ) → p < m.stores → p < 8
@@ -125,7 +112,7 @@ module _ (m : State) (s : Unbroken m) where
 
     -- it has contents of the view, and of the others where it had
     has_here : has_in t (number k r) ≡ true
-    has_here = or_first (bit t.held (number k r)) (bit t.kept (number k r)) (joined_has (shelf m p).held (number k r))
+    has_here = or_left (bit t.held (number k r)) (bit t.kept (number k r)) (joined_has (shelf m p).held (number k r))
 
     has_beside : (u : ℕ) → u ≢ number k r → has_in t u ≡ has_contents m p u
     has_beside u n = ap (λ (b : Bool). b || is_kept m p u) (joined_beside (shelf m p).held (number k r) u n)
@@ -146,30 +133,23 @@ module _ (m : State) (s : Unbroken m) where
           same_causes = λ f. refl;
           same_word = λ f. refl;
           at_store = λ f. o.store_in;
-          blank = λ f. not_both (has_in t (number k r)) has_here f;
+          blank = λ f. absurd (both_ways (has_in t (number k r)) f has_here);
         })
 
     -- a sender's links are written beside contents that were not there; else the links stay, and so does whether there are contents
     links_stay : is_held m p (number k r) || not (eqb r 0) ≡ true → has_in t (number k 0) ≡ has_contents m p (number k 0)
-    links_stay e = go (ℕ_discrete (number k 0) (number k r))
-      where
-        go : Dec (number k 0 ≡ number k r) → has_in t (number k 0) ≡ has_contents m p (number k 0)
-        go (yes d) =
-            or_cases (is_held m p (number k r)) (not (eqb r 0)) e
-            (λ h. ap (λ (u : ℕ). has_in t u) d ∙ has_here ∙ sym (has_held m p (number k 0) (ap (is_held m p) d ∙ h)))
-            (λ h. absurd (eqb-false r 0 (not-true (eqb r 0) h) (omega arith)))
-        go (no n) = has_beside (number k 0) n
+    links_stay e = search (rules, has_here, has_held, eqb-false, not-true, or_cases, has_beside)
 
     written_links_holds : LinksSlot (has_in t (number k 0)) (view m (number k 0)).links l.to
     written_links_holds =
         pick_case (λ (x : Links). LinksSlot (has_in t (number k 0)) (view m (number k 0)).links x.to) (is_held m p (number k r) || not (eqb r 0)) _ _
         (λ e. subst (λ (b : Bool). LinksSlot b (view m (number k 0)).links (get_or m.links (links_place p k) no_links).to) (sym (links_stay e)) (s.links_at p k hp (key_16 k o.key_in)))
         (λ e.
-        let z : r ≡ 0 = eqb-true r 0 (not-false (eqb r 0) (nor_right (is_held m p (number k r)) (not (eqb r 0)) e)) in
+        let z : r ≡ 0 = eqb-true r 0 (not-false (eqb r 0) (or_parts (is_held m p (number k r)) (not (eqb r 0)) e).1) in
         record {
           long = (s.view_at (number k r) hv).causes.long;
           same_links = λ j b f. ap (λ (i : ℕ). get_or (view m (number k i)).links j 0) z;
-          links_blank = λ j b f. not_both (has_in t (number k 0)) (ap (λ (i : ℕ). has_in t (number k i)) (sym z) ∙ has_here) f;
+          links_blank = λ j b f. absurd (both_ways (has_in t (number k 0)) f (ap (λ (i : ℕ). has_in t (number k i)) (sym z) ∙ has_here));
         })
 
     contents_here_holds : (u : ℕ) → u < 32 → ContentsSlot m.stores p (has_in t u) (view m u) (get_or (set m.contents (place p (number k r)) c) (place p u) no_contents)
@@ -227,11 +207,7 @@ module _ (m : State) (s : Unbroken m) where
   -- 16
   pub restarted_kept : (p : ℕ) → p < m.stores → Unbroken (restarted m p)
   unfolding restarted
-  restarted_kept p h =
-      let hp = store_8 p h in
-      let old = s.store_at p hp in
-      let t = turned (shelf m p) true in
-      beside_contents m s p hp t (there_slot t h old.working old.checkpointed) (λ u. refl) (λ u hu. s.ack_owed p u hp hu) (λ u hu. s.uack_owed p u hp hu)
+  restarted_kept p e = search (rules, hp, store_8, beside_contents, there_slot)
 
   -- 15, 17: nothing is owed any more, and what neither state has is swept
   module _ (p : ℕ) (hp : p < 8) (t : Store) (slot : StoreSlot m.stores m.made p t) (acks : t.acksowed ≡ 0) (uacks : t.uacksowed ≡ 0)
@@ -288,7 +264,7 @@ module _ (m : State) (s : Unbroken m) where
       let hp = store_8 p h in
       let old = s.store_at p hp in
       let t = thrown_back (shelf m p) in
-      swept_kept p hp t (there_slot t h old.checkpointed old.checkpointed) refl refl (λ v e. or_cases (is_kept m p v) (is_kept m p v) e (has_kept m p v) (has_kept m p v))
+      swept_kept p hp t (there_slot t h old.checkpointed old.checkpointed) refl refl (λ v e. ⊎_elim (has_kept m p v) (has_kept m p v) (or_cases (is_kept m p v) (is_kept m p v) e))
 
 pub checkpointed_kept : (m : State) → Unbroken m → (p : ℕ) → p < m.stores → Unbroken (checkpointed m p)
 unfolding checkpointed
@@ -303,4 +279,4 @@ checkpointed_kept m s p h =
     let s₂ = uacks_write m₁ s₁ (sent_owed (shelf m p).uacksowed p m.uacks) (places_length 32 p (send (owes_uack m p)) 0 m.uacks)
     (at_places 32 p (send (owes_uack m p)) 0 m.uacks (λ q v. CopySlot m.stores q 1 (status_number (entry m v).status)) (λ v hv. owed_copies (owes_uack m p v) (s.uack_at p v hp hv) h (s.uack_owed p v hp hv)) (λ q v hq hv d. s.uack_at q v hq hv)) in
     let m₂ = with_uacks m₁ (sent_owed (shelf m p).uacksowed p m.uacks) in
-    swept_kept m₂ s₂ p hp t (there_slot t h old.working old.working) refl refl (λ v e. or_cases (is_held m p v) (is_held m p v) e (has_held m p v) (has_held m p v))
+    swept_kept m₂ s₂ p hp t (there_slot t h old.working old.working) refl refl (λ v e. ⊎_elim (has_held m p v) (has_held m p v) (or_cases (is_held m p v) (is_held m p v) e))

@@ -5,6 +5,7 @@ use mathlib.Core.Bool.{false}
 use mathlib.Core.List.{◌∷◌, map}
 use native.Mathlib.Omega.{arith}
 use lib.Dec.{eqb}
+use Rattle.std.proofs.Common.{rules}
 use Rattle.protocol.specs.Kinds.{kind}
 use Rattle.protocol.specs.Write.{written}
 use Rattle.protocol.specs.declared.State.{State}
@@ -30,7 +31,6 @@ use Rattle.protocol.specs.Step.{after_of}
 use Rattle.protocol.specs.declared.Step.{Step}
 use Rattle.protocol.specs.declared.Step.TheVariants.{Send, Receive, PreCheck, SendRecord, Timeout, TakeRecord, TakeAck, PostCheck, TakeRepair, SendUpdate, TakeUpdate, TakeUack, Expire, Lose, Crash, Restart, Checkpoint, Duplicate}
 use Rattle.keeps.specs.Applies.{value_of, named}
-use Rattle.keeps.proofs.Cases.{pick_case}
 
 -- what is true of every kind but a send: it makes no interaction, and its fields are what it names, a byte each
 pub record Another (s : Step) : Type 0 where
@@ -44,9 +44,7 @@ pub data Kind (s : Step) : Type 0 where
   another : Another s → Kind s
 
 counted_made : (m : State) (what p v n : ℕ) → (with_copies m what p v n).made ≡ m.made
-counted_made m what p v n =
-    pick_case (λ (x : State). x.made ≡ m.made) (eqb what 0) _ _ (λ e. refl)
-    (λ e. pick_case (λ (x : State). x.made ≡ m.made) (eqb what 1) _ _ (λ f. refl) (λ f. pick_case (λ (x : State). x.made ≡ m.made) (eqb what 2) _ _ (λ g. refl) (λ g. refl)))
+counted_made m what p v n = search rules
 
 others : {s : Step} → eqb (kind s) 1 ≡ false → kind s < 256 → ((m : State) → (after_of m s).made ≡ m.made) → written s ≡ kind s ∷ map value_of (named s) → Kind s
 others e l f b = another (record { other = e; low = l; made = f; bytes = b })

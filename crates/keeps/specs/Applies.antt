@@ -1,4 +1,4 @@
--- When each refusal number applies to a step: document 01's table, row by row, each judged by itself. A row whose words need what isn't
+-- When each refusal number applies to a step: docs/REFUSALS.md, row by row, each judged by itself. A row whose words need what isn't
 -- there (a store outside the machine, the head of an empty queue) reads a blank or another's slot; then 2 or 7 applies, which is lower.
 use Rattle.std.specs.Prelude.{ℕ, ◌≤◌, ◌<◌, ◌≡◌, true, false}
 use mathlib.Core.List.{List, [], ◌∷◌, Memᴰ}

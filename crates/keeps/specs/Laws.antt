@@ -1,12 +1,14 @@
 -- The laws of a step: when it is taken and what it then gives, what a new interaction is, that every link is written out, and that
 -- no idle program gives what a step gives.
-use Rattle.std.specs.Prelude.{ℕ, ◌+◌, ◌*◌, ◌≤◌, ◌<◌, ◌≡◌, ◌≢◌, true, false, [], ◌∷◌, get_or}
+use Rattle.std.specs.Prelude.{ℕ, ◌+◌, ◌*◌, ◌≤◌, ◌<◌, ◌≡◌, ◌≢◌, true, false, [], ◌∷◌, get_or, Result}
 use Rattle.protocol.specs.Words.{bit}
 use Rattle.protocol.specs.Slots.{number, home, message, view, cause_links, is_held, viewlink, owes_ack}
 use Rattle.protocol.specs.Setup.{answered, fresh_with}
 use Rattle.protocol.specs.Broken.{broken_of}
 use Rattle.protocol.specs.declared.State.{State}
 use Rattle.protocol.specs.Outcome.{Outcome}
+use Rattle.protocol.specs.Refusal.{answer}
+use Rattle.protocol.specs.declared.refusal.Refusal.{Refusal}
 use Rattle.protocol.specs.Send.{sent_view, awaited_view, sent}
 use Rattle.protocol.specs.Receive.{received_of}
 use Rattle.protocol.specs.TakeRecord.{record_taken}
@@ -88,13 +90,17 @@ pub record LinksHeld (m : State) (p k r : ℕ) : Type 0 where
 abbrev pub StoreWritesLinks : Type 0
 StoreWritesLinks = (m : State) (p k r : ℕ) → broken_of m ≡ false → TakeRecordTaken m p k r → LinksHeld m p k r
 
+-- equal numbers are equal answers: a contract that tells an answer by its number determines it
+abbrev pub OneAnswer : Type 0
+OneAnswer = (a b : Result Unit Refusal) → answer a ≡ answer b → a ≡ b
+
 -- no two results can both satisfy the promise of a step, or of the rule alone
 abbrev pub OneResult : Type 0
 OneResult =
     ((m : State) (s : Step) (x y : Outcome) → x ≡ step_of m s → y ≡ step_of m s → x ≡ y)
     × ((m : State) (s : Step) (x y : Outcome) → x ≡ rule_of m s → y ≡ rule_of m s → x ≡ y)
 
--- document 01's setup M: three stores, actor 0 home 0 list 5, actor 1 home 1 list 6
+-- setup M: three stores, actor 0 home 0 list 5, actor 1 home 1 list 6
 abbrev pub marked : State
 marked = fresh_with 3 2 (0 ∷ 1 ∷ 0 ∷ 0 ∷ 0 ∷ 0 ∷ 0 ∷ 0 ∷ []) (5 ∷ 6 ∷ 0 ∷ 0 ∷ 0 ∷ 0 ∷ 0 ∷ 0 ∷ [])
 

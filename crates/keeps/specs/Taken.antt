@@ -1,4 +1,4 @@
--- When a step of each kind is taken: document 01's conditions, kind by kind, as plain facts of an unbroken machine.
+-- When a step of each kind is taken: the rules' conditions, kind by kind, as plain facts of an unbroken machine.
 use Rattle.std.specs.Prelude.{ℕ, ◌≤◌, ◌<◌, ◌≡◌, ◌≢◌, true, false}
 use Rattle.protocol.specs.Words.{bit}
 use Rattle.protocol.specs.Slots.{number, list, is_up, queue, view, repair, entry, record_copies, ack_copies, update_copies, uack_copies}

@@ -1,5 +1,4 @@
--- The twelve marked runs of document 01 as one table, with what document 02 makes of them, over the definitions that the contracts
--- cite.
+-- The twelve marked runs of docs/RUNS.md as one table, over the definitions that the contracts cite.
 use Rattle.std.specs.Prelude.{ℕ, ◌+◌, ◌≡◌, Bool, true, false, ◌&&◌, not, List, [], ◌∷◌, ◌++◌, eqb, take, replicate}
 use Rattle.protocol.specs.Slots.{number, view, is_lasting, lasting_viewlink}
 use Rattle.protocol.specs.Setup.{setup_of}
@@ -50,7 +49,7 @@ setup_with list = record { stores = 3; actors = 2; homes = 0 ∷ 1 ∷ replicate
 abbrev pub on_m : List Asked → List Fact → Then → Row
 on_m steps facts next = record { setup = setup_with 5; answer = 0; steps = steps; facts = facts; next = next }
 
--- "S" is send 0 to 1, own 0, data 7, no causes.
+-- S: send 0 to 1, own 0, data 7, no causes.
 abbrev pub S : Step
 S = Send 0 1 0 7 0
 
@@ -64,19 +63,19 @@ abbrev pub rows : List Row
 rows =
     -- W1 M drained: 0 steps.
     on_m [] [] (drained 0 [])
-    -- W2 S, drain: 13 (K4). Store 0 has the sender view, link 1; store 1 the receiver view, link 0.
+    -- W2 S, drain: 13. Store 0 has the sender view, link 1; store 1 the receiver view, link 0.
     ∷ on_m ((S ⇒ 0) ∷ []) [] (drained 13 (has 0 0 0 1 ∷ has 1 0 1 0 ∷ []))
-    -- W3 S, receive, both pre-checked, sent and both records lost; drain: 22 (K4), both views at store 2, both links 2.
+    -- W3 S, receive, both pre-checked, sent and both records lost; drain: 22, both views at store 2, both links 2.
     ∷ on_m
     ((S ⇒ 0) ∷ (Receive 0 ⇒ 0) ∷ prepares_record 0 ++ prepares_record 1 ++ (Lose 0 0 0 0 ⇒ 0) ∷ (Lose 0 1 0 1 ⇒ 0) ∷ [])
     []
     (drained 22 (at 0 0 2 ∷ at 0 1 2 ∷ has 2 0 0 2 ∷ has 2 0 1 2 ∷ []))
-    -- W4 S, receive, only the sender's pre-checked, sent and lost; drain: 17 (K4). Sender at 2 link 1; receiver at 1 link 2.
+    -- W4 S, receive, only the sender's pre-checked, sent and lost; drain: 17. Sender at 2 link 1; receiver at 1 link 2.
     ∷ on_m
     ((S ⇒ 0) ∷ (Receive 0 ⇒ 0) ∷ prepares_record 0 ++ (Lose 0 0 0 0 ⇒ 0) ∷ [])
     []
     (drained 17 (at 0 0 2 ∷ has 2 0 0 1 ∷ at 0 1 1 ∷ has 1 0 1 2 ∷ []))
-    -- W5 S, pre-check, send, store 0 takes it and makes a checkpoint, without which no ack would be in flight (K4), timeout to 2, ack
+    -- W5 S, pre-check, send, store 0 takes it and makes a checkpoint, without which no ack would be in flight, timeout to 2, ack
     -- from 0: taken, phase stays 2.
     ∷ on_m
     ((S ⇒ 0) ∷ prepares_record 0 ++ (TakeRecord 0 0 0 ⇒ 0) ∷ (Checkpoint 0 ⇒ 0) ∷ (Timeout 0 2 ⇒ 0) ∷ (TakeAck 0 0 0 ⇒ 0) ∷ [])
@@ -84,7 +83,7 @@ rows =
     rests
     -- W6 send 0 to 0: 3. Own store 1 for actor 0: 8.
     ∷ on_m ((Send 0 0 0 7 0 ⇒ 3) ∷ (Send 0 1 1 7 0 ⇒ 8) ∷ []) [] rests
-    -- W7 timeout in phase 2: 7; in phase 3 to the current store: taken three times with a send between, then 8 (K1).
+    -- W7 timeout in phase 2: 7; in phase 3 to the current store: taken three times with a send between, then 8.
     ∷ on_m ((S ⇒ 0) ∷ (PreCheck 0 ⇒ 0) ∷ (Timeout 0 2 ⇒ 7) ∷ tries_again ++ tries_again ++ tries_again ++ (SendRecord 0 ⇒ 0) ∷ (Timeout 0 0 ⇒ 8) ∷ []) [] rests
     -- W8 after S, actor 1 sends with cause 0: 9; after receive: taken.
     ∷ on_m ((S ⇒ 0) ∷ (Send 1 0 1 7 1 ⇒ 9) ∷ (Receive 0 ⇒ 0) ∷ (Send 1 0 1 7 1 ⇒ 0) ∷ []) [] rests
@@ -94,7 +93,7 @@ rows =
     ∷ on_m ((Crash 0 ⇒ 0) ∷ (Crash 0 ⇒ 5) ∷ (Restart 0 ⇒ 0) ∷ (Restart 0 ⇒ 6) ∷ []) [] rests
     -- W11 list 1 for actor 0: 11, with the empty machine.
     ∷ record { setup = setup_with 1; answer = 11; steps = []; facts = empty ∷ []; next = rests }
-    -- W12 S, receive, 1 sends to 0 own 1 cause 0. Walk of 1: 13. Drain: 25 (K4). Walk of 1: 1, 0. Walk of 2: 2.
+    -- W12 S, receive, 1 sends to 0 own 1 cause 0. Walk of 1: 13. Drain: 25. Walk of 1: 1, 0. Walk of 2: 2.
     ∷ on_m
     ((S ⇒ 0) ∷ (Receive 0 ⇒ 0) ∷ (Send 1 0 1 7 1 ⇒ 0) ∷ [])
     (refuses 1 13 ∷ [])

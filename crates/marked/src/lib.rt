@@ -1,3 +1,3 @@
-// The twelve marked runs of document 01 as one table: specs/Marked.antt states it, proofs/Marked.antt proves it.
+// The twelve marked runs of docs/RUNS.md as one table: specs/Marked.antt states it, proofs/Marked.antt proves it.
 
 #![tactic(auto)]

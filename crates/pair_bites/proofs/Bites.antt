@@ -11,7 +11,7 @@ use Rattle.protocol.specs.Slots.{number, view}
 use Rattle.protocol.specs.Setup.{fresh_with}
 use Rattle.protocol.specs.Closed.{closed_of}
 use Rattle.protocol.specs.declared.State.{State}
-use Rattle.protocol.specs.declared.Walked.{Walked}
+use Rattle.protocol.specs.Walk.{Walked, found_of, receipt_of, hop_of, each, visit_of, walked_from, refused_walk, answer_of, walk_of}
 use Rattle.protocol.specs.Send.{causes_known, send_no, sent}
 use Rattle.protocol.specs.Receive.{receive_no, received_of}
 use Rattle.protocol.specs.PreCheck.{pre_check_no, pre_checked}
@@ -32,7 +32,6 @@ use Rattle.protocol.specs.Restart.{restart_no, restarted}
 use Rattle.protocol.specs.Checkpoint.{checkpoint_no, checkpointed}
 use Rattle.protocol.specs.declared.Step.{Step}
 use Rattle.protocol.specs.Drain.{lowest, job_step, entry_step, turn_of, all_up, drain_of}
-use Rattle.protocol.specs.Walk.{found_of, receipt_of, hop_of, each, visit_of, walked_from, refused_walk, answer_of, walk_of}
 use Rattle.guarantees.specs.Acknowledged.{after}
 use Rattle.guarantees.specs.Sent.{sent_as}
 use Rattle.guarantees.specs.Guarantees.{SentReach}
@@ -42,8 +41,7 @@ use Rattle.bites.proofs.Ruled.{ruled, ran_ruled}
 use Rattle.bites.proofs.Right.{course_ruled, steps_ruled, after_ruled}
 use Rattle.bites.proofs.Witnesses.{legal_M}
 use Rattle.bites.proofs.Further.{ruled_run, whole, drained_run_holds, caused}
-use Rattle.pairing.specs.declared.Checked.{Checked}
-use Rattle.pairing.specs.Pair.{kind_of, bundle_of, record_of, is_rule, counted, last_sender, rule_one, two_adds, rule_two, passes_of, refused_check, answered_check, checked_of, check_of}
+use Rattle.pairing.specs.Pair.{Checked, kind_of, bundle_of, record_of, is_rule, counted, last_sender, rule_one, two_adds, rule_two, passes_of, refused_check, answered_check, checked_of, check_of}
 use Rattle.pairs.specs.Pairs.{old, scaler}
 use Rattle.pair_bites.specs.Bites.{right_pair, mixed_pair, two_scalers, behind_the_weights, Says, direct_by, direct_check, receipt_by, receipt_check, any_by, any_check, BreaksAfterDrain, PairBites}
 

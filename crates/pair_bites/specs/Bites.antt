@@ -5,16 +5,14 @@ use Rattle.protocol.specs.Words.{pick, table}
 use Rattle.protocol.specs.Slots.{number, view, lasting_contents, no_contents}
 use Rattle.protocol.specs.declared.State.{State}
 use Rattle.protocol.specs.declared.Contents.{Contents}
-use Rattle.protocol.specs.declared.Walked.{Walked}
+use Rattle.protocol.specs.Walk.{Walked, walk_of}
 use Rattle.protocol.specs.declared.Step.{Step}
 use Rattle.protocol.specs.declared.Step.TheVariants.{Send, Receive}
 use Rattle.protocol.specs.Drain.{all_up, drain_of}
-use Rattle.protocol.specs.Walk.{walk_of}
 use Rattle.guarantees.specs.Acknowledged.{after}
 use Rattle.guarantees.specs.Sent.{sent_as}
 use Rattle.bites.specs.Setting.{M}
-use Rattle.pairing.specs.declared.Checked.{Checked}
-use Rattle.pairing.specs.Pair.{kind_of, bundle_of, record_of, met_at, met_of, is_a, is_cause, is_rule, counted, passes_of, refused_check, answered_check, check_of}
+use Rattle.pairing.specs.Pair.{Checked, kind_of, bundle_of, record_of, met_at, met_of, is_a, is_cause, is_rule, counted, passes_of, refused_check, answered_check, check_of}
 use Rattle.pairs.specs.Pairs.{AfterDrain}
 
 -- the words of a bundle

@@ -4,6 +4,7 @@
 
 ghost use Rattle.pair_bites.specs.Bites.{PairBites};
 
+/// Runs on which they hold, and wrong rules that break them.
 #[tactic(auto, using(crate::proofs::Bites::pair_bites))]
 pub fn laws()
     ensures { PairBites }

@@ -8,6 +8,7 @@ use mathlib.Core.List.{List, [], ◌++◌, append-nil}
 use native.Mathlib.Omega.{arith}
 use lib.Dec.{eqb}
 use borrow.Author.Tests.{eqb-true, eqb-false, eq-eqb, ne_eqb}
+use Rattle.std.proofs.lemmas.Bool.{and_parts, or_from}
 use Rattle.protocol.specs.Words.{pick, times}
 use Rattle.reaches.specs.Reaches.{keys_of}
 use Rattle.protocol.specs.Slots.{number, view}
@@ -18,7 +19,6 @@ use Rattle.protocol.specs.declared.Step.{Step}
 use Rattle.protocol.specs.Run.{fresh_of}
 use Rattle.protocol.specs.Walk.{walk_of}
 use Rattle.unbroken.proofs.Laws.{unbroken}
-use Rattle.unbroken.proofs.Laws.Tests.{and_left, nor_both}
 use Rattle.unbroken.proofs.Laws.Has.{has_kept}
 use Rattle.reads.proofs.Some.{ran_append}
 use Rattle.drains.specs.Drains.{steps_of}
@@ -30,8 +30,7 @@ use Rattle.guarantees.proofs.Demand.{there, reached, stays_closed_for_ever}
 use Rattle.guarantees.proofs.Sent.{sent_run, told_on}
 use Rattle.guarantees.proofs.Drained.{the_drain}
 use Rattle.guarantees.proofs.Walking.{of_sent, reach_made, reach_on, reach_off, every_walk, the_walk}
-use Rattle.pairing.specs.declared.Checked.{Checked}
-use Rattle.pairing.specs.Pair.{kind_of, bundle_of, record_of, met_of, is_a, is_rule, rule_one, two_adds, rule_two, passes_of, refused_check, answered_check, checked_of, check_of}
+use Rattle.pairing.specs.Pair.{Checked, kind_of, bundle_of, record_of, met_of, is_a, is_rule, rule_one, two_adds, rule_two, passes_of, refused_check, answered_check, checked_of, check_of}
 use Rattle.pairs.specs.Pairs.{Rule, old, new, TwoThenOne, Refuses, Speaks, AsSent, Lasts, AfterDrain, ThePairRule}
 use Rattle.pairs.proofs.Passing.{walked, rule_tells, rule_told}
 
@@ -84,13 +83,13 @@ two_then_one_holds m k h =
     let met = met_of m (walk_of m k) in
     let f = record_of m k in
     narrower true (walk_of m k).answer (is_a 3 f) (rule_one met (bundle_of f.word) && two_adds met (walk_of m k).keys f.causes) (rule_one met (bundle_of f.word))
-    (and_left (rule_one met (bundle_of f.word)) (two_adds met (walk_of m k).keys f.causes)) h
+    (λ e. (and_parts (rule_one met (bundle_of f.word)) (two_adds met (walk_of m k).keys f.causes) e).0) h
 
 refuses : Refuses check_of
 unfolding check_of checked_of
 refuses =
     record {
-      no_rule = λ m rule k a b. rw (nor_both (eqb rule 1) (eqb rule 2) (ne_eqb rule 1 a) (ne_eqb rule 2 b));
+      no_rule = λ m rule k a b. rw (or_from (eqb rule 1) (eqb rule 2) (ne_eqb rule 1 a) (ne_eqb rule 2 b));
       walk_first = λ m rule k r n. rw (known r, ne_eqb (walk_of m k).answer 0 n);
       no_forecast = λ m rule k r z n. rw (known r, eq-eqb (walk_of m k).answer 0 z, ne_eqb (kind_of (record_of m k).word) 3 n);
       answered = λ m rule k r z e. rw (known r, eq-eqb (walk_of m k).answer 0 z, eq-eqb (kind_of (record_of m k).word) 3 e);

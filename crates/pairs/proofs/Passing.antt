@@ -8,17 +8,17 @@ use native.Mathlib.Omega.{arith}
 use lib.Dec.{leb, ltb, eqb}
 use lib.ListN.{length, get_or}
 use borrow.Author.Tests.{ltb-true, lt-ltb, leb-true, le-leb, eqb-true, eq-eqb}
+use Rattle.std.proofs.lemmas.Bool.{and_from, and_parts, both_ways, not_from_true}
 use Rattle.protocol.specs.Words.{pick, times}
 use Rattle.protocol.specs.Slots.{number, view, no_contents}
 use Rattle.protocol.specs.declared.State.{State}
 use Rattle.protocol.specs.declared.Setup.{Setup}
 use Rattle.protocol.specs.declared.Step.{Step}
 use Rattle.protocol.specs.declared.Contents.{Contents}
-use Rattle.protocol.specs.declared.Walked.{Walked}
-use Rattle.protocol.specs.Walk.{unmet, walked_from, walk_of}
+use Rattle.protocol.specs.Walk.{Walked, unmet, walked_from, walk_of}
 use Rattle.unbroken.specs.Unbroken.{Unbroken}
 use Rattle.unbroken.proofs.Laws.{unbroken}
-use Rattle.unbroken.proofs.Laws.Tests.{and_left, and_right, and_both, or_else, or_of, not_back, not_both, by_test}
+use Rattle.unbroken.proofs.Laws.Tests.{or_else, or_of, by_test}
 use Rattle.unbroken.proofs.Laws.Every.{below_at, below_each, table_at}
 use Rattle.reaches.specs.Reaches.{keys_of}
 use Rattle.reaches.proofs.Counted.{few}
@@ -67,7 +67,7 @@ met_kind m w i kind p e = go (ltb i w.count) refl e
   where
     go : (t : Bool) → ltb i w.count ≡ t → is_a kind (pick t (record_of m (get_or w.keys i 0)) no_contents) ≡ true → Met m w i
     go true f h = record { low = ltb-true i w.count f; same = rw f }
-    go false f h = not_both (is_a kind no_contents) h (no_kind kind p)
+    go false f h = absurd (both_ways (is_a kind no_contents) (no_kind kind p) h)
 
 module _ (u : Setup) (steps : List Step) (m : State) (k : ℕ) (z : (walk_of m k).answer ≡ 0)
     (once : (i : ℕ) → SentReach u steps k i → times i (keys_of (walk_of m k)) ≡ 1)
@@ -119,7 +119,7 @@ module _ (u : Setup) (steps : List Step) (m : State) (k : ℕ) (z : (walk_of m k
 
   -- all of both kinds have a bundle
   part_of : (kind : ℕ) → Part kind → (c : Contents) → is_a kind c ≡ true → is_part c ≡ true
-  part_of kind weights c e = or_of (is_a 1 c) (is_a 2 c) (λ f. not_both (is_a 1 c) e f)
+  part_of kind weights c e = or_of (is_a 1 c) (is_a 2 c) (λ f. absurd (both_ways (is_a 1 c) f e))
   part_of kind scaler c e = or_of (is_a 1 c) (is_a 2 c) (λ f. e)
 
   all_back : (b : ℕ) → ((kind : ℕ) → Part kind → (i : ℕ) → SentReach u steps k i → kind_of (sent_as u steps i).word ≡ kind → bundle_of (sent_as u steps i).word ≡ b)
@@ -147,21 +147,21 @@ module _ (u : Setup) (steps : List Step) (m : State) (k : ℕ) (z : (walk_of m k
       let c = get_or (met_of m w) t.at no_contents in
       let part : is_part c ≡ true = part_of kind p c (eq-eqb (kind_of c.word) kind (ap kind_of t.word ∙ q)) in
       let h : has_bundle b c ≡ true = below_at 16 (λ i. has_bundle b (get_or (met_of m w) i no_contents)) e t.at t.low in
-      ap bundle_of (sym t.word) ∙ eqb-true (bundle_of c.word) b (or_else (not (is_part c)) (eqb (bundle_of c.word) b) h (not_back (is_part c) part))
+      ap bundle_of (sym t.word) ∙ eqb-true (bundle_of c.word) b (or_else (not (is_part c)) (eqb (bundle_of c.word) b) h (not_from_true (is_part c) part))
 
   pub rule_tells : (b : ℕ) → b ≡ bundle_of (sent_as u steps k).word → rule_one (met_of m w) b ≡ true → RightPair u steps k
   unfolding rule_one
   rule_tells b q e =
-      let two = and_left (leb 1 (how_many 1 (met_of m w)) && leb 1 (how_many 2 (met_of m w))) (all_have b (met_of m w)) e in
-      record { some = of two; bundle = λ kind p i r g. all_of b (and_right (leb 1 (how_many 1 (met_of m w)) && leb 1 (how_many 2 (met_of m w))) (all_have b (met_of m w)) e) kind p i r g ∙ q }
+      let two = (and_parts (leb 1 (how_many 1 (met_of m w)) && leb 1 (how_many 2 (met_of m w))) (all_have b (met_of m w)) e).0 in
+      record { some = of two; bundle = λ kind p i r g. all_of b (and_parts (leb 1 (how_many 1 (met_of m w)) && leb 1 (how_many 2 (met_of m w))) (all_have b (met_of m w)) e).1 kind p i r g ∙ q }
     where
       of : (leb 1 (how_many 1 (met_of m w)) && leb 1 (how_many 2 (met_of m w))) ≡ true → (kind : ℕ) → Part kind → SentKind u steps k kind
-      of t kind weights = some 1 weights (and_left (leb 1 (how_many 1 (met_of m w))) (leb 1 (how_many 2 (met_of m w))) t)
-      of t kind scaler = some 2 scaler (and_right (leb 1 (how_many 1 (met_of m w))) (leb 1 (how_many 2 (met_of m w))) t)
+      of t kind weights = some 1 weights (and_parts (leb 1 (how_many 1 (met_of m w))) (leb 1 (how_many 2 (met_of m w))) t).0
+      of t kind scaler = some 2 scaler (and_parts (leb 1 (how_many 1 (met_of m w))) (leb 1 (how_many 2 (met_of m w))) t).1
 
   pub rule_told : (b : ℕ) → b ≡ bundle_of (sent_as u steps k).word → RightPair u steps k → rule_one (met_of m w) b ≡ true
   unfolding rule_one
   rule_told b q r =
-      and_both (leb 1 (how_many 1 (met_of m w)) && leb 1 (how_many 2 (met_of m w))) (all_have b (met_of m w))
-      (and_both (leb 1 (how_many 1 (met_of m w))) (leb 1 (how_many 2 (met_of m w))) (some_back 1 (r.some 1 weights)) (some_back 2 (r.some 2 scaler)))
+      and_from (leb 1 (how_many 1 (met_of m w)) && leb 1 (how_many 2 (met_of m w))) (all_have b (met_of m w))
+      (and_from (leb 1 (how_many 1 (met_of m w))) (leb 1 (how_many 2 (met_of m w))) (some_back 1 (r.some 1 weights)) (some_back 2 (r.some 2 scaler)))
       (all_back b (λ kind p i h g. r.bundle kind p i h g ∙ sym q))

@@ -1,5 +1,5 @@
 -- What the pair rule is worth, sentence by sentence. It is said of any check, so that it can be said of a wrong one too (crate
--- pair_bites); document 02's is `check_of`.
+-- pair_bites); the rule's own is `check_of`.
 use Rattle.std.specs.Prelude.{ℕ, ◌<◌, ◌≡◌, ◌≢◌, true, false, List, ◌++◌}
 use Rattle.protocol.specs.declared.State.{State}
 use Rattle.protocol.specs.declared.Setup.{Setup}
@@ -9,8 +9,7 @@ use Rattle.protocol.specs.Walk.{walk_of}
 use Rattle.guarantees.specs.Acknowledged.{Legal, after}
 use Rattle.guarantees.specs.Sent.{sent_as}
 use Rattle.guarantees.specs.Guarantees.{SentReach}
-use Rattle.pairing.specs.declared.Checked.{Checked}
-use Rattle.pairing.specs.Pair.{kind_of, bundle_of, record_of, check_of}
+use Rattle.pairing.specs.Pair.{Checked, kind_of, bundle_of, record_of, check_of}
 
 abbrev pub Check : Type 0
 Check = State → ℕ → ℕ → Checked

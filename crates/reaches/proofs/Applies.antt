@@ -3,7 +3,7 @@
 use Prim.Native.Nat.{ℕ, zero, suc, ◌+◌, ◌-◌, ◌≤◌, ◌<◌}
 use mathlib.Core.Path.{◌≡◌, refl, sym, ap, subst, ◌∙◌}
 use mathlib.Core.Logic.{◌⊎◌, inl, inr, ⊎_elim}
-use mathlib.Core.Bool.{Bool, true, false, ◌&&◌, ◌||◌, not, false≢true}
+use mathlib.Core.Bool.{Bool, true, false, ◌&&◌, ◌||◌, not}
 use mathlib.Core.List.Memᴰ
 use mathlib.Core.List.{List, [], ◌∷◌, ◌++◌, map, map-append, Memᴰ}
 use native.Mathlib.Omega.{arith}
@@ -12,15 +12,16 @@ use lib.Dec.{leb, eqb}
 use lib.ListN.{length, get_or, set, take, length-set}
 use lib.Seq.{get_or-set_same, get_or-set_other, take-suc-set}
 use borrow.Author.Tests.{not-true, eqb-true, eqb-false, eq-eqb, ne_eqb, leb-true, leb-false, le-leb}
+use Rattle.std.proofs.lemmas.Bool.{and_from, and_parts, both_ways, not_from_false}
+use Rattle.std.proofs.Common.{rules}
 use Rattle.protocol.specs.Words.{pick, bit}
 use Rattle.protocol.specs.Slots.{number, view, is_lasting}
 use Rattle.protocol.specs.Broken.{broken_of}
 use Rattle.protocol.specs.Closed.{closed_of}
 use Rattle.protocol.specs.declared.State.{State}
-use Rattle.protocol.specs.declared.Met.{Met}
-use Rattle.protocol.specs.Walk.{added, spoiled, looked_up, found_of, causes_held, hop_of, each, to_cause, visit_of, unmet, walked_from, refused_walk, walk_of}
+use Rattle.protocol.specs.Walk.{Met, added, spoiled, looked_up, found_of, causes_held, hop_of, each, to_cause, visit_of, unmet, walked_from, refused_walk, walk_of}
 use Rattle.unbroken.proofs.Laws.{unbroken}
-use Rattle.unbroken.proofs.Laws.Tests.{by_test, not_both, and_left, and_right, and_both, or_of, not_of}
+use Rattle.unbroken.proofs.Laws.Tests.{by_test, or_of}
 use Rattle.unbroken.proofs.Laws.Says.{Says}
 use Rattle.reaches.specs.Tally.{Tally}
 use Rattle.reaches.specs.Reaches.{keys_of}
@@ -33,16 +34,8 @@ use Rattle.unbroken.proofs.Laws.Lowest.{lowest, from_none, from_test}
 
 met_more : (l : List Lookup) (x : Lookup) (i : ℕ) → met (l ++ (x ∷ [])) i ≡ met l i || eqb x.key i
 unfolding met
-met_more [] x i = or_false (eqb x.key i)
-  where
-    or_false : (b : Bool) → b || false ≡ false || b
-    or_false true = refl
-    or_false false = refl
-met_more (y ∷ l) x i = go (eqb y.key i) (met_more l x i)
-  where
-    go : (b : Bool) → met (l ++ (x ∷ [])) i ≡ met l i || eqb x.key i → b || met (l ++ (x ∷ [])) i ≡ b || met l i || eqb x.key i
-    go true e = refl
-    go false e = e
+met_more [] x i = search rules
+met_more (y ∷ l) x i = search (rules, met_more l x i)
 
 -- the two words of a list that has one more
 or_none : (a b : Bool) → b ≡ false → a || b ≡ a
@@ -95,26 +88,10 @@ module _ (m : State) where
 
   beside_start : Beside unmet []
   unfolding met
-  beside_start =
-      record {
-        tally = tally_unmet;
-        room = refl;
-        same = λ f i. none_met i;
-        good = λ f x h. absurd (Memᴰ.not-nil h);
-        bad = λ f. absurd (false≢true (sym f));
-        listed = λ f. refl;
-      }
+  beside_start = search (rules, tally_unmet, room, none_met)
 
   beside_bad : {w : Met} {l : List Lookup} → Tally w → length w.keys ≡ 16 → w.fine ≡ false → (x : Lookup) → Memᴰ x l → Lacking x → Beside w l
-  beside_bad {w} {l} tally room f x h e =
-      record {
-        tally = tally;
-        room = room;
-        same = λ t. not_both w.fine t f;
-        good = λ t. not_both w.fine t f;
-        bad = λ t. (x, h, e);
-        listed = λ t. not_both w.fine t f;
-      }
+  beside_bad e f g x h i = search (rules, room, both_ways)
 
   -- a key that is found is met now
   beside_added : {w : Met} {l : List Lookup} (k link : ℕ) → k < 16 → w.fine ≡ true → get_or w.met k false ≡ false → Found (at k link) → Beside w l
@@ -129,7 +106,7 @@ module _ (m : State) where
             (λ q. (ap (λ (j : ℕ). get_or (set w.met k true) j false) q ∙ get_or-set_same w.met k true false (omega (arith, b.tally.long))) ∙ sym (met_more l (at k link) i ∙ or_of (met l i) (eqb k i) (λ z. eq-eqb k i (sym q))))
             (λ n. get_or-set_other w.met k i true false n ∙ b.same f i ∙ sym (met_more l (at k link) i ∙ or_none (met l i) (eqb k i) (ne_eqb k i (λ q. n (sym q)))));
         good = λ f x h. ⊎_elim (λ g. b.good f x g) (λ g. ⊎_elim (λ e. subst (λ (y : Lookup). Found y) (sym e) found) (λ n. absurd (Memᴰ.not-nil n)) (Memᴰ.cases_cons g)) (Memᴰ.append_cases l h);
-        bad = λ f. not_both w.fine fine f;
+        bad = λ f. absurd (both_ways w.fine f fine);
         listed = λ f. more ∙ ap (λ (i : List ℕ). i ++ (k ∷ [])) (b.listed f) ∙ sym (map-append (λ (x : Lookup). x.key) l (at k link ∷ []));
       }
 
@@ -154,12 +131,7 @@ module _ (m : State) where
       (visit : w.fine ≡ true → get_or w.met j false ≡ false → Beside (visit_of depth m j (hop_of m k link j) (looked_up w)) (looked depth m j (hop_of m k link j) l)) where
     turn : (fine seen listed : Bool) → w.fine ≡ fine → get_or w.met j false ≡ seen → met l j ≡ listed
         → Beside (pick (fine && not seen) (visit_of depth m j (hop_of m k link j) (looked_up w)) w) (pick listed l (looked depth m j (hop_of m k link j) l))
-    turn false seen true e s n = b
-    turn false seen false e s n = let x = b.bad e in beside_bad b.tally b.room e x.0 (looked_grows depth j (hop_of m k link j) l x.0 x.1) x.2
-    turn true true true e s n = b
-    turn true true false e s n = not_both (met l j) (sym (b.same e j) ∙ s) n
-    turn true false true e s n = not_both (met l j) n (sym (b.same e j) ∙ s)
-    turn true false false e s n = visit e s
+    turn fine seen listed e f g = search (rules, beside_bad, looked_grows, both_ways)
 
   visit_beside : (depth k link : ℕ) (w : Met) (l : List Lookup) → k < depth → k < 16 → w.fine ≡ true → get_or w.met k false ≡ false → Beside w l → Beside (visit_of depth m k link w) (looked depth m k link l)
   unfolding visit_of looked
@@ -181,28 +153,25 @@ module _ (m : State) where
   -- what isn't found, in words
   unfound : (x : Lookup) → Lacking x → Unfound m x
   unfolding found_of
-  unfound x f =
-      by_test (eqb x.link 0) (λ e. no_link (eqb-true x.link 0 e))
-      (λ e. by_test (is_lasting m (x.link - 1) (number x.key 0))
-      (λ h. by_test (closed_of m x.key) (λ c. absurd (false≢true (sym f ∙ and_both _ _ (and_both _ _ (ap not e) h) c))) (λ c. is_open c)) (λ h. no_entry h))
+  unfound x e = search (rules, by_test, eqb-true, and_from)
 
   module _ (x : Lookup) (f : Found x) where
     linked : not (eqb x.link 0) ≡ true
     unfolding found_of
-    linked = and_left (not (eqb x.link 0)) (is_lasting m (x.link - 1) (number x.key 0)) (and_left _ (closed_of m x.key) f)
+    linked = (and_parts (not (eqb x.link 0)) (is_lasting m (x.link - 1) (number x.key 0)) (and_parts _ (closed_of m x.key) f).0).0
 
     lasting : is_lasting m (x.link - 1) (number x.key 0) ≡ true
     unfolding found_of
-    lasting = and_right (not (eqb x.link 0)) (is_lasting m (x.link - 1) (number x.key 0)) (and_left _ (closed_of m x.key) f)
+    lasting = (and_parts (not (eqb x.link 0)) (is_lasting m (x.link - 1) (number x.key 0)) (and_parts _ (closed_of m x.key) f).0).1
 
     closed : closed_of m x.key ≡ true
     unfolding found_of
-    closed = and_right (not (eqb x.link 0) && is_lasting m (x.link - 1) (number x.key 0)) (closed_of m x.key) f
+    closed = (and_parts (not (eqb x.link 0) && is_lasting m (x.link - 1) (number x.key 0)) (closed_of m x.key) f).1
 
   not_found : (x : Lookup) → Unfound m x → Found x → ⊥
-  not_found x (is_open e) f = not_both (closed_of m x.key) (closed x f) e
+  not_found x (is_open e) f = absurd (both_ways (closed_of m x.key) e (closed x f))
   not_found x (no_link e) f = eqb-false x.link 0 (not-true (eqb x.link 0) (linked x f)) e
-  not_found x (no_entry e) f = not_both (is_lasting m (x.link - 1) (number x.key 0)) (lasting x f) e
+  not_found x (no_entry e) f = absurd (both_ways (is_lasting m (x.link - 1) (number x.key 0)) e (lasting x f))
 
   module _ (k : ℕ) where
     numbers : {n : ℕ} → Applies m k n → (n ≡ 1) ⊎ (n ≡ 2) ⊎ (n ≡ 13)
@@ -235,14 +204,11 @@ module _ (m : State) where
         let b : Beside (walked_from m k) (lookups m k) = begun u l in
         record {
           tells = λ e. (let x = b.bad (not-true (walked_from m k).fine e) in is_unfound x.0 x.1 (unfound x.0 x.2));
-          told = λ a. let x = told_unfound a refl in by_test (walked_from m k).fine (λ f. absurd (not_found x.0 x.2 (b.good f x.0 x.1))) (λ f. not_of (walked_from m k).fine f);
+          told = λ a. let x = told_unfound a refl in by_test (walked_from m k).fine (λ f. absurd (not_found x.0 x.2 (b.good f x.0 x.1))) (λ f. not_from_false (walked_from m k).fine f);
         }
 
 answer_is : (w : Met) (broken out fine : Bool) → pick broken 1 (pick out 2 (pick (not fine) 13 0)) ≡ (pick broken (refused_walk 1) (pick out (refused_walk 2) (pick fine (record { answer = 0; keys = w.keys; count = w.count; lookups = w.lookups }) (refused_walk 13)))).answer
-answer_is w true out fine = refl
-answer_is w false true fine = refl
-answer_is w false false true = refl
-answer_is w false false false = refl
+answer_is w broken out fine = search rules
 
 pub walk_refusals : WalkRefusals
 unfolding walk_of

@@ -5,6 +5,7 @@ use mathlib.Core.Bool.{true, false}
 use native.Mathlib.Omega.{arith}
 use native.Mathlib.Decide.{dec_lt}
 use lib.ListN.{get_or-eq_default}
+use Rattle.std.proofs.lemmas.Bool.{both_ways}
 use Rattle.protocol.specs.Words.{bit}
 use Rattle.protocol.specs.Slots.{no_store, view, contents, is_lasting}
 use Rattle.protocol.specs.Sweep.{has_contents}
@@ -12,7 +13,6 @@ use Rattle.protocol.specs.declared.State.{State}
 use Rattle.protocol.specs.declared.Store.{Store}
 use Rattle.unbroken.specs.Unbroken.{Unbroken, ContentsSlot}
 use Rattle.unbroken.proofs.Laws.Bits.{bit_none}
-use Rattle.unbroken.proofs.Laws.Tests.{not_both}
 
 module _ (m : State) (u : Unbroken m) where
   pub nothing_lasts : (p v : ℕ) → 8 ≤ p → is_lasting m p v ≡ false
@@ -22,5 +22,5 @@ module _ (m : State) (u : Unbroken m) where
   lasting_slot p v b h =
       elim (dec_lt p 8) [
         | yes l ↦ u.contents_at p v l b
-        | no l ↦ not_both (is_lasting m p v) h (nothing_lasts p v (omega arith))
+        | no l ↦ absurd (both_ways (is_lasting m p v) (nothing_lasts p v (omega arith)) h)
       ]

@@ -1,13 +1,13 @@
 -- The tally of the keys met leaves room for a key that is not, and holds when that one is added. By induction on the list; assumes nothing.
 use Prim.Native.Nat.{ℕ, zero, suc, ◌+◌, ◌≤◌, ◌<◌}
-use mathlib.Core.Path.{◌≡◌, refl, ap, ◌∙◌}
+use mathlib.Core.Path.{◌≡◌, refl, ap}
 use mathlib.Core.Bool.{Bool, true, false}
 use mathlib.Core.List.{List, [], ◌∷◌}
 use native.Mathlib.Omega.{arith}
 use lib.ListN.{length, get_or, set, length-set}
+use Rattle.std.proofs.Common.{rules}
 use Rattle.protocol.specs.Words.{one}
-use Rattle.protocol.specs.declared.Met.{Met}
-use Rattle.protocol.specs.Walk.{added, unmet}
+use Rattle.protocol.specs.Walk.{Met, added, unmet}
 use Rattle.reaches.specs.Tally.{Tally, ones}
 
 one_low : (b : Bool) → one b ≤ 1
@@ -40,10 +40,7 @@ pub room : {w : Met} {k : ℕ} → Tally w → k < 16 → get_or w.met k false �
 room {w} {k} t h e = omega (arith, t.long, t.counted, ones_room w.met k (omega (arith, t.long)) e)
 
 pub tally_added : (w : Met) (k : ℕ) → Tally w → k < 16 → get_or w.met k false ≡ false → Tally (added w k)
-tally_added w k t h e = record {
-  long = length-set w.met k true ∙ t.long;
-  counted = omega (arith, t.counted, ones_set w.met k (omega (arith, t.long)) e);
-}
+tally_added w k e f g = search (rules, length-set, ones_set)
 
 pub tally_unmet : Tally unmet
 unfolding ones

@@ -3,7 +3,7 @@ use Prim.Native.Nat.{ℕ, ◌+◌, ◌<◌}
 use mathlib.Core.Path.{◌≡◌, refl, sym, ap, ◌∙◌}
 use mathlib.Core.Logic.{◌≢◌, ◌⊎◌, inl, inr}
 use mathlib.Core.Bool.{true, false}
-use mathlib.Core.List.{List, [], ◌∷◌, ◌++◌}
+use mathlib.Core.List.{[], ◌∷◌, ◌++◌}
 use native.Mathlib.Omega.{arith}
 use native.Mathlib.Numerals.{add-one}
 use native.Mathlib.Decide.{dec_lt}
@@ -11,10 +11,11 @@ use lib.Dec.{eqb}
 use lib.ListN.{length, get_or, set, take, replicate, length-set, get_or-replicate, get_or-eq_default}
 use lib.Seq.{get_or-set_same, get_or-set_other, take-suc-set}
 use borrow.Author.Tests.{eq-eqb, ne_eqb, eqb-true, eqb-false}
+use Rattle.std.proofs.lemmas.Bool.{both_ways}
 use Rattle.protocol.specs.Words.{one, times}
-use Rattle.unbroken.proofs.Laws.Tests.{by_test, not_both}
-use Rattle.protocol.specs.declared.Met.{Met}
-use Rattle.protocol.specs.Walk.{added, unmet}
+use Rattle.unbroken.proofs.Laws.Counting.{times_last}
+use Rattle.unbroken.proofs.Laws.Tests.{by_test}
+use Rattle.protocol.specs.Walk.{Met, added, unmet}
 use Rattle.reaches.specs.Tally.{Tally}
 use Rattle.reaches.proofs.Counted.{room, tally_added, tally_unmet}
 
@@ -29,11 +30,6 @@ pub record Sound (w : Met) : Type 0 where
 
 pub same_or : {A : Type 0} (i k : ℕ) → (i ≡ k → A) → (i ≢ k → A) → A
 same_or i k y n = by_test (eqb i k) (λ e. y (eqb-true i k e)) (λ e. n (eqb-false i k e))
-
-times_more : (x y : ℕ) (l : List ℕ) → times x (l ++ (y ∷ [])) ≡ times x l + one (eqb y x)
-unfolding times
-times_more x y [] = omega arith
-times_more x y (z ∷ l) = omega (arith, times_more x y l)
 
 -- a key that was not met is added
 pub record Added (k : ℕ) (w w' : Met) : Type 0 where
@@ -50,7 +46,7 @@ adds k w s b e =
     let this : get_or (set w.met k true) k false ≡ true = get_or-set_same w.met k true false here in
     let more : take (w.count + 1) (set w.keys w.count k) ≡ take w.count w.keys ++ (k ∷ []) = rw add-one (take-suc-set w.keys w.count k fits) in
     let count : (i : ℕ) → times i (take (w.count + 1) (set w.keys w.count k)) ≡ one (get_or w.met i false) + one (eqb k i) =
-    λ i. ap (times i) more ∙ times_more i k (take w.count w.keys) ∙ ap (λ (n : ℕ). n + one (eqb k i)) (s.listed i) in
+    λ i. ap (times i) more ∙ times_last i k (take w.count w.keys) ∙ ap (λ (n : ℕ). n + one (eqb k i)) (s.listed i) in
     record {
       sound = record {
         tally = tally_added w k s.tally b e;
@@ -59,7 +55,7 @@ adds k w s b e =
             (λ q. count i ∙ rw (q, e, eq-eqb k k refl, this))
             (λ n. count i ∙ rw (ne_eqb k i (λ q. n (sym q)), other i n) (omega arith));
       };
-      grows = λ i h. same_or i k (λ q. not_both (get_or w.met i false) h (rw q e)) (λ n. other i n ∙ h);
+      grows = λ i h. same_or i k (λ q. absurd (both_ways (get_or w.met i false) (rw q e) h)) (λ n. other i n ∙ h);
       this = this;
       from = λ i h. same_or i k (λ q. inr (sym q)) (λ n. inl (sym (other i n) ∙ h));
     }

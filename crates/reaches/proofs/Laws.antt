@@ -8,15 +8,15 @@ use native.Mathlib.Omega.{arith}
 use lib.Dec.{leb}
 use lib.ListN.{get_or, take, replicate}
 use borrow.Author.Tests.{leb-false}
+use Rattle.std.proofs.lemmas.Bool.{both_ways}
 use Rattle.protocol.specs.Words.{one, times}
 use Rattle.protocol.specs.Slots.{number, view}
 use Rattle.protocol.specs.Broken.{broken_of}
 use Rattle.unbroken.specs.Unbroken.{Unbroken}
 use Rattle.protocol.specs.declared.State.{State}
 use Rattle.unbroken.proofs.Laws.{unbroken, only}
-use Rattle.unbroken.proofs.Laws.Tests.{by_test, not_both}
-use Rattle.protocol.specs.declared.Walked.{Walked}
-use Rattle.protocol.specs.Walk.{unmet, walked_from, refused_walk, walk_of}
+use Rattle.unbroken.proofs.Laws.Tests.{by_test}
+use Rattle.protocol.specs.Walk.{Walked, unmet, walked_from, refused_walk, walk_of}
 use Rattle.reaches.proofs.Counted.{few}
 use Rattle.reaches.specs.Reaches.{Reach, here, by, Exactly, OneResult, AnsweredReaches, KeysFew, RefusedEmpty, LookupsExactly}
 use Rattle.reaches.proofs.Keys.{IsMet, none_met, sound_unmet}
@@ -64,10 +64,10 @@ module _ (m : State) (k : ℕ) (b : broken_of m ≡ false) (l : k < m.made) (f :
   -- what is reached from a key that is met is met
   onward : {j i : ℕ} → Reach m j i → IsMet (walked_from m k) j → IsMet (walked_from m k) i
   onward here h = h
-  onward {j} (by {j = c} t r) h = onward r (⊎_elim (λ n. not_both _ n (none_met j)) (λ n. n c t) (begun.after.causes f j h))
+  onward {j} (by {j = c} t r) h = onward r (⊎_elim (λ n. absurd (both_ways _ (none_met j) n)) (λ n. n c t) (begun.after.causes f j h))
 
   met_reached : (i : ℕ) → IsMet (walked_from m k) i → Reach m k i
-  met_reached i h = ⊎_elim (λ n. not_both _ n (none_met i)) (λ n. n) (begun.after.from i h)
+  met_reached i h = ⊎_elim (λ n. absurd (both_ways _ (none_met i) n)) (λ n. n) (begun.after.from i h)
 
   exactly : Exactly m k (record { answer = 0; keys = (walked_from m k).keys; count = (walked_from m k).count; lookups = (walked_from m k).lookups })
   exactly = record {

@@ -5,11 +5,10 @@ use mathlib.Core.Path.{◌≡◌, refl}
 use mathlib.Core.Bool.{Bool, true, false, not, false≢true}
 use native.Mathlib.Omega.{arith}
 use lib.ListN.{get_or}
+use Rattle.std.proofs.lemmas.Bool.{and_parts}
 use Rattle.protocol.specs.Words.{pick, bit}
 use Rattle.protocol.specs.declared.State.{State}
-use Rattle.protocol.specs.declared.Met.{Met}
-use Rattle.protocol.specs.Walk.{added, looked_up, found_of, causes_held, hop_of, each, is_due, to_cause, visit_of}
-use Rattle.unbroken.proofs.Laws.Tests.{and_left}
+use Rattle.protocol.specs.Walk.{Met, added, looked_up, found_of, causes_held, hop_of, each, is_due, to_cause, visit_of}
 use Rattle.reaches.specs.Tally.{Looked}
 
 picked : (P : Met → Type 0) (b : Bool) {x y : Met} → (b ≡ true → P x) → P y → P (pick b x y)
@@ -25,7 +24,7 @@ each_looked top g f s (suc n) j w b h = each_looked top g f s n (j + 1) (pick (b
 cause_looked : (m : State) (k link j : ℕ) (g : ℕ → ℕ → Met → Met) → ((hop : ℕ) (w : Met) → w.lookups ≡ 2 * w.count → Looked (g j hop w))
     → (w : Met) → Looked w → Looked (to_cause g m k link j w)
 cause_looked m k link j g f w h =
-    picked Looked (is_due w j) (λ t. f (hop_of m k link j) (looked_up w) (h (and_left w.fine (not (get_or w.met j false)) t))) h
+    picked Looked (is_due w j) (λ t. f (hop_of m k link j) (looked_up w) (h (and_parts w.fine (not (get_or w.met j false)) t).0)) h
 
 pub visit_looked : (m : State) (depth k link : ℕ) (w : Met) → k < depth → w.lookups ≡ 2 * w.count → Looked (visit_of depth m k link w)
 unfolding visit_of

@@ -9,15 +9,15 @@ use native.Mathlib.Decide.{dec_lt}
 use lib.Dec.{eqb}
 use lib.ListN.{get_or}
 use borrow.Author.Tests.{not-true}
+use Rattle.std.proofs.lemmas.Bool.{and_parts}
+use Rattle.std.proofs.Common.{rules}
 use Rattle.protocol.specs.Words.{pick, bit}
 use Rattle.protocol.specs.Slots.{number, view, is_lasting}
 use Rattle.protocol.specs.Closed.{closed_of}
 use Rattle.unbroken.specs.Unbroken.{Unbroken}
 use Rattle.protocol.specs.declared.State.{State}
-use Rattle.unbroken.proofs.Laws.Tests.{and_left, and_right}
 use Rattle.unbroken.proofs.Laws.Has.{has_kept}
-use Rattle.protocol.specs.declared.Met.{Met}
-use Rattle.protocol.specs.Walk.{added, spoiled, looked_up, found_of, causes_held, hop_of, each, is_due, to_cause, visit_of}
+use Rattle.protocol.specs.Walk.{Met, added, spoiled, looked_up, found_of, causes_held, hop_of, each, is_due, to_cause, visit_of}
 use Rattle.reaches.proofs.Behind.{lasting_slot}
 use Rattle.reaches.specs.Reaches.{Cause, Reach, here, by}
 use Rattle.reaches.proofs.Keys.{IsMet, Sound, Added, adds}
@@ -35,13 +35,7 @@ module _ {m : State} {Q : ℕ → Type 0} where
   after_none s = record { sound = s; kept = λ f. f; grows = λ i h. h; from = λ i h. inl h; causes = λ f i h. inl h }
 
   after_both : {a b d : Met} → After m Q a b → After m Q b d → After m Q a d
-  after_both p q = record {
-    sound = q.sound;
-    kept = λ f. p.kept (q.kept f);
-    grows = λ i h. q.grows i (p.grows i h);
-    from = λ i h. ⊎_elim (λ n. p.from i n) (λ n. inr n) (q.from i h);
-    causes = λ f i h. ⊎_elim (λ n. ⊎_elim (λ o. inl o) (λ o. inr (λ c e. q.grows c (o c e))) (p.causes (q.kept f) i n)) (λ n. inr n) (q.causes f i h);
-  }
+  after_both e f = search rules
 
   after_wider : {R : ℕ → Type 0} {w w' : Met} → ((i : ℕ) → R i → Q i) → After m R w w' → After m Q w w'
   after_wider g p = record { sound = p.sound; kept = p.kept; grows = p.grows; from = λ i h. ⊎_elim (λ n. inl n) (λ n. inr (g i n)) (p.from i h); causes = p.causes }
@@ -101,7 +95,7 @@ module _ (m : State) (u : Unbroken m) where
   found_causes : (k link : ℕ) → k < 16 → found_of m k link ≡ true → causes_held m k link ≡ (view m (number k 0)).causes
   unfolding found_of
   found_causes k link b e =
-      let lasts : is_lasting m (link - 1) (number k 0) ≡ true = and_right (not (eqb link 0)) (is_lasting m (link - 1) (number k 0)) (and_left _ (closed_of m k) e) in
+      let lasts : is_lasting m (link - 1) (number k 0) ≡ true = (and_parts (not (eqb link 0)) (is_lasting m (link - 1) (number k 0)) (and_parts _ (closed_of m k) e).0).1 in
       (lasting_slot m u (link - 1) (number k 0) (omega arith) lasts).same_causes (has_kept m (link - 1) (number k 0) lasts)
 
   below : (k c : ℕ) → k < 16 → Cause m k c → c < k
@@ -112,7 +106,7 @@ module _ (m : State) (u : Unbroken m) where
     to_cause_holds : (k link j : ℕ) (w : Met) → j < top → Sound w → Visited m j w (to_cause g m k link j w)
     to_cause_holds k link j w b s =
         by_pick (Visited m j w) (is_due w j)
-        (λ t. looking (visits j (hop_of m k link j) (looked_up w) b (looked s) (not-true _ (and_right w.fine (not (get_or w.met j false)) t))))
+        (λ t. looking (visits j (hop_of m k link j) (looked_up w) b (looked s) (not-true _ (and_parts w.fine (not (get_or w.met j false)) t).1)))
         (λ t. record { after = after_none s; this = λ f. not_due w.fine (get_or w.met j false) f t })
 
   -- a visit of a key that isn't met

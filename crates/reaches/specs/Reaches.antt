@@ -3,8 +3,7 @@ use Rattle.std.specs.Prelude.{ℕ, ◌*◌, ◌-◌, ◌≤◌, ◌<◌, ◌≡�
 use Rattle.protocol.specs.Words.{bit, times}
 use Rattle.protocol.specs.Slots.{number, view}
 use Rattle.protocol.specs.declared.State.{State}
-use Rattle.protocol.specs.declared.Walked.{Walked}
-use Rattle.protocol.specs.Walk.{walk_of}
+use Rattle.protocol.specs.Walk.{Walked, walk_of}
 pub use Rattle.protocol.specs.Chain.{keys_of}
 
 -- j is one of the causes that the sender record of k holds: 16 bits, bit j for interaction j
@@ -37,6 +36,6 @@ KeysFew = (m : State) (k : ℕ) (r : Walked) → r ≡ walk_of m k → r.count �
 abbrev pub RefusedEmpty : Type 0
 RefusedEmpty = (m : State) (k : ℕ) (r : Walked) → r ≡ walk_of m k → r.answer ≢ 0 → (r.keys ≡ replicate 16 0) × (r.count ≡ 0) × (r.lookups ≡ 0)
 
--- document 02, K6: a walk that answers m keys has looked up exactly 2m - 1 store entries
+-- A walk that answers m keys has looked up exactly 2m - 1 store entries (RULES.md, Lookups).
 abbrev pub LookupsExactly : Type 0
 LookupsExactly = (m : State) (k : ℕ) (r : Walked) → r ≡ walk_of m k → r.answer ≡ 0 → r.lookups ≡ 2 * r.count - 1

@@ -1,7 +1,7 @@
 -- As many keys as are met: what leaves room for a key that is not. And as many lookups as these take.
 use Rattle.std.specs.Prelude.{ℕ, ◌+◌, ◌*◌, ◌≡◌, Bool, true, List, [], ◌∷◌, length}
 use Rattle.protocol.specs.Words.{one}
-use Rattle.protocol.specs.declared.Met.{Met}
+use Rattle.protocol.specs.Walk.{Met}
 
 -- how many flags of a list are set
 unfoldable pub ones : List Bool → ℕ

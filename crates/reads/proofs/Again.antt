@@ -1,5 +1,6 @@
 -- The bytes of a book have one reading: its rows and each of its steps, written again, are the bytes that were read, so the whole is.
 -- Assumes nothing.
+use Rattle.std.specs.Prelude.{Some, None, Option}
 use Prim.Native.Nat.{ℕ, zero, suc, ◌+◌, ◌*◌, ◌/◌, ◌%◌, ◌≤◌, ◌<◌}
 use mathlib.Core.Path.{◌≡◌, refl, sym, ap, ◌∙◌}
 use mathlib.Core.Bool.{Bool, true, false, ◌||◌, false≢true}
@@ -13,8 +14,6 @@ use lib.Pow.{are_bytes}
 use borrow.Author.Tests.{leb-false, eqb-false, eqb-true}
 use Rattle.protocol.specs.Words.{pick, table}
 use Rattle.protocol.specs.declared.Step.{Step}
-use Rattle.protocol.specs.declared.Read.{Read}
-use Rattle.protocol.specs.declared.Read.TheVariants.{Got, Bad}
 use Rattle.protocol.specs.Book.{byte, low16, width_of, step_made, read_step, on_read, valid_from, steps_from, home_read, list_read, actors_read, start_of, count_of, well_formed, reading_of}
 use Rattle.protocol.specs.Run.{steps_read}
 use Rattle.protocol.specs.Write.{written, written_steps, written_rows, written_book}
@@ -42,13 +41,15 @@ pub record Found (s : List ℕ) (at : ℕ) (step : Step) (behind : ℕ) : Type 0
   pub next : behind ≡ at + 1 + width_of (byte s at)
 
 picked : (P : Type 0) (b₁ b₂ b₃ : Bool) (x step : Step) (y c : ℕ) → (b₁ ≡ false → b₂ ≡ false → b₃ ≡ false → x ≡ step → y ≡ c → P)
-    → pick b₁ Bad (pick (b₂ || b₃) Bad (Got x y)) ≡ Got step c → P
+    → ◌≡◌ {A = Option (Step × ℕ)} (pick b₁ None (pick (b₂ || b₃) None (Some (x, y)))) (Some (step, c)) → P
 picked P true b₂ b₃ x step y c f e = let z : ◌≡◌ {A = ℕ} 0 1 = cc in let w : ⊥ = omega arith in absurd w
 picked P false true b₃ x step y c f e = let z : ◌≡◌ {A = ℕ} 0 1 = cc in let w : ⊥ = omega arith in absurd w
 picked P false false true x step y c f e = let z : ◌≡◌ {A = ℕ} 0 1 = cc in let w : ⊥ = omega arith in absurd w
-picked P false false false x step y c f e = f refl refl refl (cc) (cc)
+picked P false false false x step y c f e =
+    let p : ◌≡◌ {A = Step × ℕ} (x, y) (step, c) = cc in
+    f refl refl refl (ap (λ q. q.0) p) (ap (λ q. q.1) p)
 
-pub found : (s : List ℕ) (at : ℕ) (step : Step) (behind : ℕ) → read_step s at ≡ Got step behind → Found s at step behind
+pub found : (s : List ℕ) (at : ℕ) (step : Step) (behind : ℕ) → read_step s at ≡ Some (step, behind) → Found s at step behind
 unfolding read_step
 found s at step behind e =
     let k : ℕ = byte s at in
@@ -56,7 +57,7 @@ found s at step behind e =
     (λ p q r m n. record { here = leb-false _ _ p; wide = eqb-false _ _ q; fits = leb-false _ _ r; made = m; next = sym n }) e
 
 -- the bytes of a step that was read, and the rest
-step_again : (s : List ℕ) → are_bytes s ≡ true → (at : ℕ) (step : Step) (behind : ℕ) → read_step s at ≡ Got step behind → drop at s ≡ written step ++ drop behind s
+step_again : (s : List ℕ) → are_bytes s ≡ true → (at : ℕ) (step : Step) (behind : ℕ) → read_step s at ≡ Some (step, behind) → drop at s ≡ written step ++ drop behind s
 step_again s bs at step behind e =
     let h : Found s at step behind = found s at step behind e in
     let k : ℕ = byte s at in
@@ -65,11 +66,11 @@ step_again s bs at step behind e =
     let d : drop at s ≡ k ∷ drop (at + 1) s = drop-cons s at 0 h.here ∙ rw add-one in
     d ∙ ap (λ (x : List ℕ). k ∷ x) (drop_from s (at + 1) (width_of k) l) ∙ rw (← h.made, m, h.next)
 
-again_on : (s : List ℕ) (bs : are_bytes s ≡ true) (n at : ℕ) (r : Read) → read_step s at ≡ r → ((p : ℕ) → valid_from s n p ≡ true → drop p s ≡ written_steps (steps_from s n p))
+again_on : (s : List ℕ) (bs : are_bytes s ≡ true) (n at : ℕ) (r : Option (Step × ℕ)) → read_step s at ≡ r → ((p : ℕ) → valid_from s n p ≡ true → drop p s ≡ written_steps (steps_from s n p))
     → on_read r false (λ step p. valid_from s n p) ≡ true → drop at s ≡ written_steps (on_read r [] (λ step p. step ∷ steps_from s n p))
 unfolding written_steps
-again_on s bs n at Bad q f e = absurd (false≢true e)
-again_on s bs n at (Got step behind) q f e = step_again s bs at step behind q ∙ ap (λ (x : List ℕ). written step ++ x) (f behind e)
+again_on s bs n at None q f e = absurd (false≢true e)
+again_on s bs n at (Some (step, behind)) q f e = step_again s bs at step behind q ∙ ap (λ (x : List ℕ). written step ++ x) (f behind e)
 
 -- what stands from a place to the end is the bytes of the steps that are read there
 steps_again : (s : List ℕ) (bs : are_bytes s ≡ true) (n at : ℕ) → valid_from s n at ≡ true → drop at s ≡ written_steps (steps_from s n at)

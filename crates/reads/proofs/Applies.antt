@@ -9,12 +9,13 @@ use lib.Dec.{ltb, eqb}
 use lib.ListN.{length, get_or}
 use lib.Pow.{are_bytes}
 use borrow.Author.Tests.{lt-ltb, ltb-true, eqb-true, not-true}
+use Rattle.std.proofs.lemmas.Bool.{both_ways, not_from_false}
 use Rattle.protocol.specs.Words.{pick}
 use Rattle.protocol.specs.Book.{home_read, list_read, actors_read, well_formed, setup_read, reading_of}
 use Rattle.protocol.specs.Run.{steps_read, legal_setup, fresh_of, book_no, refused_run, full_run, run_of}
 use Rattle.unbroken.specs.Unbroken.{LegalActor, LegalSetup}
 use Rattle.unbroken.specs.Lowest.{IsLowest}
-use Rattle.unbroken.proofs.Laws.Tests.{by_test, not_both, not_of}
+use Rattle.unbroken.proofs.Laws.Tests.{by_test}
 use Rattle.unbroken.proofs.Laws.Every.{length_table, table_at}
 use Rattle.unbroken.proofs.Laws.Says.{Says, put_says, not_says, un_splits}
 use Rattle.unbroken.proofs.Laws.SlotTests.{legal_says}
@@ -70,14 +71,14 @@ module _ (s : List ℕ) (room : ℕ) (bs : are_bytes s ≡ true) where
 
   told : {n : ℕ} → Applies s room n → Has n tests
   unfolding reading_of
-  told (is_malformed h) = inl (refl, not_of (well_formed s) (by_test (well_formed s) (λ v. absurd (h ((formed_exactly s bs).0 v))) (λ v. v)))
+  told (is_malformed h) = inl (refl, not_from_false (well_formed s) (by_test (well_formed s) (λ v. absurd (h ((formed_exactly s bs).0 v))) (λ v. v)))
   told (is_illegal h) = inr (inl (refl, (not_says (un_splits (legal_book s))).told h))
   told (is_short l) = inr (inr (inl (refl, lt-ltb room (length (steps_read s)) l)))
 
   tells : Each (Applies s room) tests
   unfolding reading_of
   tells = (
-    λ e. is_malformed (λ x. not_both (well_formed s) ((formed_exactly s bs).1 x) (not-true (well_formed s) e)),
+    λ e. is_malformed (λ x. absurd (both_ways (well_formed s) (not-true (well_formed s) e) ((formed_exactly s bs).1 x))),
     (λ e. is_illegal ((not_says (un_splits (legal_book s))).tells e), (λ e. is_short (ltb-true room (length (steps_read s)) e), tt)),
   )
 

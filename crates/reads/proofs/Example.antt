@@ -1,4 +1,4 @@
--- Document 01's example book and another, run by computation, and the idle programs that they shut out: each differs in the answer, in
+-- The example book and another, run by computation, and the idle programs that they shut out: each differs in the answer, in
 -- what was made, in the receiver's phase, or in the buffer. Assumes nothing.
 use Prim.Native.Nat.{ℕ}
 use mathlib.Core.Path.{◌≡◌, refl, sym, ap, ◌∙◌}

@@ -14,8 +14,8 @@ use Rattle.protocol.specs.declared.State.{State}
 use Rattle.protocol.specs.Step.{step_of}
 use Rattle.protocol.specs.declared.Step.{Step}
 use Rattle.protocol.specs.Book.{setup_read, reading_of}
-use Rattle.protocol.specs.declared.Ran.{Ran}
-use Rattle.protocol.specs.Run.{ran, answers, steps_read, fresh_of, book_no, refused_run, full_run, run_of, filled, buffer_of}
+use Rattle.protocol.specs.Run.{Ran, ran, answers, steps_read, fresh_of, book_no, refused_run, full_run, run_of, filled, buffer_of}
+use Rattle.reads.proofs.Some.{answers_append}
 use Rattle.reads.proofs.Formed.{answers_length, accepted, legal_machine}
 use Rattle.reads.specs.Run.{next, folded, RunFolds, AnswersFold, BehindStay, RefusedBook, TakenAreZeros, OneResult}
 
@@ -32,16 +32,10 @@ pub run_folds : RunFolds
 unfolding run_of reading_of
 run_folds s room e = rw (starts s room e) (simp e (ran_folds (fresh_of (setup_read s)) (steps_read s)))
 
--- the answers of a list in two parts
-answers_append : (m : State) (xs ys : List Step) → answers m (xs ++ ys) ≡ answers m xs ++ answers (folded next m xs) ys
-unfolding answers folded
-answers_append m [] ys = refl
-answers_append m (x ∷ xs) ys = ap (λ (l : List ℕ). (step_of m x).answer ∷ l) (answers_append (next m x) xs ys)
-
 answer_at : (m : State) (xs : List Step) (x : Step) (ys : List Step) (buffer : List ℕ) → get_or (filled m (xs ++ (x ∷ ys)) buffer) (length xs) 0 ≡ (step_of (folded next m xs) x).answer
 unfolding filled answers
 answer_at m xs x ys buffer =
-    rw (answers_append m xs (x ∷ ys), append_assoc)
+    rw (answers_append m xs (x ∷ ys), append_assoc, ← ran_folds m xs)
     (get_or_at (answers m xs) _ _ 0 (length xs) (answers_length m xs))
 
 pub answers_fold : AnswersFold

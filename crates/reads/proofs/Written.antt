@@ -1,4 +1,5 @@
 -- What was written is read: all steps, then the rows, the counts and the whole. Assumes nothing.
+use Rattle.std.specs.Prelude.{Some}
 use Prim.Native.Nat.{ℕ, zero, suc, ◌+◌, ◌*◌, ◌/◌, ◌%◌, ◌≤◌, ◌<◌}
 use mathlib.Core.Path.{◌≡◌, refl, sym, ap, ◌∙◌}
 use mathlib.Core.Bool.{true}
@@ -7,12 +8,12 @@ use native.Mathlib.Omega.{arith}
 use lib.ListN.{length, get_or, drop, length-append, get_or-append}
 use lib.Seq.{get_or_at, get_or-append-add, drop-append-add, drop-append_seam, drop-drop, ext_get_or}
 use borrow.Author.Tests.{le-leb, eq-eqb}
+use Rattle.std.proofs.lemmas.Bool.{and_from}
+use Rattle.std.proofs.Common.{rules}
 use Rattle.protocol.specs.Words.{table}
 use Rattle.protocol.specs.declared.Step.{Step}
-use Rattle.protocol.specs.declared.Read.TheVariants.{Got}
 use Rattle.protocol.specs.Book.{Reading, byte, read_step, valid_from, steps_from, home_read, list_read, start_of, count_of, well_formed, reading_of}
 use Rattle.protocol.specs.Write.{written, written_steps, written_rows, written_book}
-use Rattle.unbroken.proofs.Laws.Tests.{and_both}
 use Rattle.unbroken.proofs.Laws.Every.{length_table, table_at}
 use Rattle.reads.proofs.Step.{step_there}
 
@@ -21,7 +22,7 @@ steps_there : (steps : List Step) (s : List ℕ) (at : ℕ) → drop at s ≡ wr
 unfolding written_steps valid_from steps_from
 steps_there [] s at e l = (eq-eqb at (length s) (omega arith), refl)
 steps_there (x ∷ xs) s at e l =
-    let g : read_step s at ≡ Got x (at + length (written x)) = step_there s at (written_steps xs) x e l in
+    let g : read_step s at ≡ Some (x, at + length (written x)) = step_there s at (written_steps xs) x e l in
     let n : length (written x ++ written_steps xs) ≡ length (written x) + length (written_steps xs) = length-append (written x) (written_steps xs) in
     let d : drop (at + length (written x)) s ≡ written_steps xs = sym (drop-drop (length (written x)) at s) ∙ ap (drop (length (written x))) e ∙ drop-append_seam (written x) (written_steps xs) in
     let ih = steps_there xs s (at + length (written x)) d (omega arith) in
@@ -121,17 +122,11 @@ module _ (b : Reading) (rows : length b.lists ≡ length b.homes) where
 
   read_here : reading_of s ≡ b
   unfolding reading_of
-  read_here =
-      let h : table (home_read s) n ≡ b.homes = table_is (home_read s) b.homes n refl home_is in
-      let l : table (list_read s) n ≡ b.lists = table_is (list_read s) b.lists n rows list_is in
-      let t : steps_from s (count_of s) (start_of s) ≡ b.steps = rw (count_is, start_is) steps_are.1 in
-      λ i. record { stores = b.stores; homes = h i; lists = l i; steps = t i }
+  read_here = search (rules, table_is, home_is, list_is, count_is, start_is, steps_are)
 
   formed_here : c ≤ 4096 → well_formed s ≡ true
   unfolding well_formed
-  formed_here few =
-      let l = length_is in
-      and_both _ _ (and_both _ _ (le-leb (start_of s) (length s) (rw start_is (omega arith))) (le-leb (count_of s) 4096 (rw count_is few))) (rw (count_is, start_is) steps_are.0)
+  formed_here e = search (rules, length_is, and_from, le-leb, start_is, count_is, steps_are)
 
   pub book_read : reading_of (written_book b) ≡ b
   book_read = rw book_is read_here

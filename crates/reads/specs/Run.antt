@@ -5,9 +5,8 @@ use Rattle.protocol.specs.Setup.{empty_machine, setup_of}
 use Rattle.protocol.specs.declared.State.{State}
 use Rattle.protocol.specs.declared.Step.{Step}
 use Rattle.protocol.specs.Step.{step_of}
-use Rattle.protocol.specs.declared.Ran.{Ran}
+use Rattle.protocol.specs.Run.{Ran, book_no, run_of, buffer_of}
 use Rattle.protocol.specs.Book.{setup_read, reading_of}
-use Rattle.protocol.specs.Run.{book_no, run_of, buffer_of}
 use Rattle.protocol.specs.Listing.{listing_of}
 
 -- the machine after a step, and after one step after another, from the left
@@ -54,7 +53,7 @@ abbrev pub OneResult : Type 0
 OneResult =
     (s buffer : List ℕ) (r q : Ran) (x y : List ℕ) → Promised s buffer r x → Promised s buffer q y → (r ≡ q) × (x ≡ y)
 
--- document 01's example: a send, its receipt, and a timeout that is refused
+-- the example book: a send, its receipt, and a timeout that is refused
 abbrev pub example : List ℕ
 example =
     3 ∷ 2 ∷ 0 ∷ 5 ∷ 1 ∷ 6 ∷ 3 ∷ 0 ∷ 1 ∷ 0 ∷ 1 ∷ 0 ∷ 7 ∷ 0 ∷ 0 ∷ 0 ∷ 0 ∷ 0 ∷ 2 ∷ 0 ∷ 5 ∷ 0 ∷ 2 ∷ []
@@ -66,7 +65,7 @@ example_lines =
     ∷ 48 ∷ 32 ∷ 48 ∷ 32 ∷ 49 ∷ 32 ∷ 48 ∷ 32 ∷ 45 ∷ 10
     ∷ 48 ∷ 32 ∷ 49 ∷ 32 ∷ 49 ∷ 32 ∷ 49 ∷ 32 ∷ 45 ∷ 10 ∷ []
 
--- what document 01 lists of a run
+-- what the recorder lists of a run
 abbrev pub listed : Ran → List ℕ
 listed r = listing_of r.state r.steps r.taken
 

@@ -1,12 +1,13 @@
 -- A loop that fills an array place by place has filled it with `table f n`. The invariant: what is filled is the table so far. Assumes nothing.
 use Prim.Native.Nat.{ℕ, ◌+◌, ◌≤◌, ◌<◌}
-use mathlib.Core.Path.{◌≡◌, refl, sym, ap, ◌∙◌}
+use mathlib.Core.Path.{◌≡◌, refl}
 use mathlib.Core.List.{List}
 use native.Mathlib.Numerals.{add-one}
 use native.Mathlib.Omega.{arith}
 use native.Mathlib.Nat.{le_antisymm}
 use lib.ListN.{length, take, set, length-set}
 use lib.Seq.{take-suc-set, take_all}
+use Rattle.std.proofs.Common.{rules}
 use Rattle.protocol.specs.Words.{table}
 
 pub record Filled {A : Type 0} (f : ℕ → A) (n : ℕ) (l : List A) (i : ℕ) : Type 0 where
@@ -20,12 +21,7 @@ fill_start f n l e = record { low = omega arith; long = e; same = refl }
 
 pub fill_step : {A : Type 0} {f : ℕ → A} {n : ℕ} {l : List A} {i : ℕ} {a : A} → Filled f n l i → i < n → a ≡ f i → Filled f n (set l i a) (i + 1)
 unfolding table
-fill_step {A} {f} {n} {l} {i} {a} h b e =
-    let j : i < length l = omega (arith, h.long) in
-    record { low = omega arith; long = length-set l i a ∙ h.long; same = rw add-one (take-suc-set l i a j ∙ simp (h.same, e)) }
+fill_step e f g = search (rules, length-set, add-one, take-suc-set)
 
 pub fill_end : {A : Type 0} {f : ℕ → A} {n : ℕ} {l : List A} {i : ℕ} → Filled f n l i → n ≤ i → l ≡ table f n
-fill_end {A} {f} {n} {l} {i} h b =
-    let q : i ≡ n = le_antisymm h.low b in
-    let j : length l ≤ n = omega (arith, h.long) in
-    sym (take_all n l j) ∙ (ap (λ (k : ℕ). take k l) (sym q) ∙ (h.same ∙ ap (table f) q))
+fill_end e f = search (rules, le_antisymm, take_all)

@@ -16,5 +16,5 @@ pub mod Empty
 pub mod Only
 pub use Whole.{unbroken, whole}
 pub use Room.{bounds}
-pub use Fresh.{fresh_unbroken, empty_unbroken, fresh_blank, empty_blank, fresh_setup}
+pub use Fresh.{fresh_unbroken, empty_unbroken, fresh_blank, empty_blank}
 pub use Only.{only}

@@ -1,6 +1,5 @@
 pub mod Fill
 pub mod Laws
-pub mod Pass
 pub mod Places
 pub mod Shelves
 pub mod Tests

@@ -1,4 +1,4 @@
--- Each writer of a machine, a store and a view writes its own field and no other. Assumes nothing.
+-- The laws of each writer of a machine, a store and a view. Assumes nothing.
 use Prim.Native.Nat.{ℕ}
 use mathlib.Core.Path.{refl}
 use mathlib.Core.Bool.{Bool}

@@ -1,4 +1,4 @@
--- What holds of a machine that is not broken: document 01's list, gathered by slot. Each fact denies the clause that stands above it.
+-- What holds of a machine that is not broken: RULES.md, Broken values, gathered by slot. Each fact denies the clause that stands above it.
 use Rattle.std.specs.Prelude.{ℕ, ◌*◌, ◌-◌, ◌/◌, ◌%◌, ◌^◌, ◌≤◌, ◌<◌, ◌≡◌, ◌≢◌, Bool, true, false, List, length, get_or}
 use Rattle.protocol.specs.Words.{bit, times}
 use Rattle.protocol.specs.Slots.{number, no_view, no_message, no_repair, no_entry, no_contents, status_number, home, list, shelf, queue, standing, message, view, repair, entry}

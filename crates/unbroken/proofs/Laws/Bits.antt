@@ -1,29 +1,24 @@
 -- The bits of a set: none of the empty one; of one that another joined, those that were there and that one. Assumes nothing.
-use Prim.Native.Nat.{ℕ, zero, suc, ◌*◌, ◌/◌, ◌%◌, ◌^◌, ◌<◌}
+use Prim.Native.Nat.{ℕ, zero, suc, ◌/◌, ◌%◌, ◌^◌, ◌<◌}
 use mathlib.Core.Path.{◌≡◌, refl, sym, ap, ◌∙◌}
 use mathlib.Core.Bool.{Bool, true, false, ◌||◌}
 use native.Mathlib.Omega.{arith}
-use native.Mathlib.Nat.{zero-div, div-one, div-eq_of_lt, mul-div-mul_right, mul-mod_left, mod-eq_of_lt, one-mul, pow-suc}
+use native.Mathlib.Nat.{zero-div, div-one, div-eq_of_lt, mul-div-mul_right, mul-mod_left, pow-suc}
 use lib.Dec.{eqb, eqb-zero-suc, eqb-suc-zero, eqb-suc-suc}
 use lib.Bits.{bit_or, or_shr, or_mod}
 use lib.Pow.{pow-lt}
+use Rattle.std.proofs.lemmas.Bool.{both_ways}
+use Rattle.std.proofs.Common.{rules}
 use Rattle.protocol.specs.Words.{bit, joined}
-use Rattle.unbroken.proofs.Laws.Tests.{not_both}
 
 pub bit_none : (j : ℕ) → bit 0 j ≡ false
 bit_none j = ap (λ (x : ℕ). eqb (x % 2) 1) (zero-div (2 ^ j))
 
 pub no_bit : {P : Type 0} (set j : ℕ) → set ≡ 0 → bit set j ≡ true → P
-no_bit set j e h = not_both (bit set j) h (ap (λ (x : ℕ). bit x j) e ∙ bit_none j)
+no_bit set j e h = absurd (both_ways (bit set j) (ap (λ (x : ℕ). bit x j) e ∙ bit_none j) h)
 
 digit_or : (p q : ℕ) → p < 2 → q < 2 → eqb (bit_or p q) 1 ≡ (eqb p 1 || eqb q 1)
-digit_or zero zero h k = refl
-digit_or zero (suc zero) h k = refl
-digit_or (suc zero) zero h k = refl
-digit_or (suc zero) (suc zero) h k = refl
-digit_or (suc (suc p)) q h k = absurd (omega arith)
-digit_or zero (suc (suc q)) h k = absurd (omega arith)
-digit_or (suc zero) (suc (suc q)) h k = absurd (omega arith)
+digit_or p q e f = search rules
 
 pub or_bit : (a b j : ℕ) → bit (bit_or a b) j ≡ (bit a j || bit b j)
 or_bit a b j =
@@ -38,7 +33,3 @@ pow_bit (suc v) (suc j) =
 
 pub joined_bit : (w v j : ℕ) → bit (joined w v) j ≡ (bit w j || eqb v j)
 joined_bit w v j = or_bit w (2 ^ v) j ∙ ap (λ (b : Bool). bit w j || b) (pow_bit v j)
-
--- the code's one, shifted, loses nothing
-pub shifted : (v : ℕ) → v < 32 → 1 * 2 ^ v % 4294967296 ≡ 2 ^ v
-shifted v h = ap (λ (n : ℕ). n % 4294967296) (one-mul (2 ^ v)) ∙ mod-eq_of_lt (pow-lt {i = v} {j = 32} h)

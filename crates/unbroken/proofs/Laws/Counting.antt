@@ -2,12 +2,13 @@
 use Prim.Native.Nat.{ℕ, zero, suc, ◌+◌, ◌*◌, ◌≤◌, ◌<◌}
 use mathlib.Core.Path.{◌≡◌, refl, sym, ap, subst}
 use mathlib.Core.Logic.{◌≢◌}
-use mathlib.Core.List.{List, [], ◌∷◌}
+use mathlib.Core.List.{List, [], ◌∷◌, ◌++◌}
 use native.Mathlib.Omega.{arith}
 use native.Mathlib.Decide.{dec_lt, ℕ_discrete}
 use lib.ListN.{length, get_or}
 use lib.Dec.{eqb}
 use borrow.Author.Tests.{eq-eqb, ne_eqb}
+use Rattle.std.proofs.Common.{rules}
 use Rattle.protocol.specs.Words.{one, times}
 
 -- the numbers 0 and 1, 2 and 3, .., 2n - 2 and 2n - 1 in a list
@@ -28,11 +29,7 @@ one_other a b e = ap one (ne_eqb a b e)
 hits_out : (y n : ℕ) → n * 2 ≤ y → hits y n ≡ 0
 unfolding hits
 hits_out y zero h = refl
-hits_out y (suc n) h =
-    let r = hits_out y n (omega arith) in
-    let s = one_other y (n * 2) (omega arith) in
-    let t = one_other y (n * 2 + 1) (omega arith) in
-    omega arith
+hits_out y (suc n) h = search (rules, one_other, hits_out y n (omega arith))
 
 hits_in : (y n : ℕ) → y < n * 2 → hits y n ≡ 1
 unfolding hits
@@ -95,6 +92,12 @@ unfolding times
 times_some x [] i h e = absurd (omega arith)
 times_some x (y ∷ ys) zero h e = let s = one_same y x e in omega arith
 times_some x (y ∷ ys) (suc i) h e = let r = times_some x ys i (omega arith) e in omega arith
+
+-- one more at the end
+pub times_last : (u v : ℕ) (l : List ℕ) → times u (l ++ (v ∷ [])) ≡ times u l + one (eqb v u)
+unfolding times
+times_last u v [] = omega arith
+times_last u v (x ∷ xs) = omega (arith, times_last u v xs)
 
 -- what stands at two places stands twice
 pub times_two : (x : ℕ) (l : List ℕ) (i j : ℕ) → i < j → j < length l → get_or l i 0 ≡ x → get_or l j 0 ≡ x → 2 ≤ times x l

@@ -7,8 +7,9 @@ use mathlib.Core.List.{List}
 use native.Mathlib.Omega.{arith}
 use lib.ListN.{length, get_or, replicate, length-replicate, get_or-replicate}
 use lib.Seq.{ext_get_or}
+use Rattle.std.proofs.Common.{rules}
 use Rattle.protocol.specs.Words.{bit, table}
-use Rattle.protocol.specs.Slots.{number, place, links_place, no_view, no_queue, no_contents, no_links, no_message, no_repair, no_entry, no_store, status_number, shelf, queue, message, view, repair, entry, contents, cause_links}
+use Rattle.protocol.specs.Slots.{number, place, links_place, no_view, no_queue, no_contents, no_links, no_message, no_repair, no_entry, no_store, shelf, queue, message, view, repair, entry, contents, cause_links}
 use Rattle.protocol.specs.Views.{blank_view, unset_view, relinked}
 use Rattle.protocol.specs.Stores.{fresh_store}
 use Rattle.protocol.specs.Sweep.{has_contents}
@@ -64,19 +65,13 @@ module _ (m : State) (s : Unbroken m) (no_stores : m.stores ≡ 0) (no_actors : 
       λ i. record { len = len i; views = views i }
 
   message_blank : (k : ℕ) → k < 16 → message m k ≡ no_message
-  message_blank k h =
-      let g = s.message_at k h in
-      g.blank (by_test (message m k).flying (λ t. absurd (omega (arith, g.key_made t))) (λ t. t))
+  message_blank k e = search rules
 
   repair_blank : (v : ℕ) → v < 32 → repair m v ≡ no_repair
-  repair_blank v h =
-      let r = s.repair_at v h in
-      r.blank (by_test (repair m v).flying (λ t. absurd (omega (arith, r.settled t, phase_blank_holds v h))) (λ t. t))
+  repair_blank v e = search rules
 
   entry_blank : (v : ℕ) → v < 32 → entry m v ≡ no_entry
-  entry_blank v h =
-      let e = s.entry_at v h in
-      e.blank (none_left (status_number (entry m v).status) (λ l. omega (arith, e.settled l, phase_blank_holds v h)))
+  entry_blank v e = search rules
 
   held_none : (p v : ℕ) → p < 8 → v < 32 → has_contents m p v ≡ false
   held_none p v h k = by_test (has_contents m p v) (λ t. absurd (omega (arith, (s.contents_at p v h k).at_store t))) (λ t. t)
@@ -96,15 +91,7 @@ module _ (m : State) (s : Unbroken m) (no_stores : m.stores ≡ 0) (no_actors : 
       let b : m.stores ≤ p = omega arith in
       let viewlinks = no_links_holds no_stores x.working in
       let keptlinks = no_links_holds no_stores x.checkpointed in
-      λ i. record {
-        up = x.up_blank b i;
-        held = x.held_blank b i;
-        kept = x.kept_blank b i;
-        acksowed = x.acks_blank b i;
-        uacksowed = x.uacks_blank b i;
-        viewlinks = viewlinks i;
-        keptlinks = keptlinks i;
-      }
+      search (rules, no_links_holds)
 
   is_empty_holds : m ≡ empty_machine
   unfolding empty_machine fresh_with table
@@ -124,25 +111,7 @@ module _ (m : State) (s : Unbroken m) (no_stores : m.stores ≡ 0) (no_actors : 
       let uacks = places_same m.uacks 0 0 z.uacks (λ p v h k. no_copies no_stores (s.uack_at p v h k)) in
       let held = places_same m.contents no_contents no_contents z.contents contents_blank in
       let links = links_same m.links blank_links no_links z.links links_blank_holds in
-      λ i. record {
-        stores = no_stores i;
-        actors = no_actors i;
-        made = none_made i;
-        homes = homes i;
-        lists = lists i;
-        queues = queues i;
-        shelves = shelves i;
-        messages = messages i;
-        views = views i;
-        repairs = repairs i;
-        entries = entries i;
-        records = records i;
-        acks = acks i;
-        updates = updates i;
-        uacks = uacks i;
-        contents = held i;
-        links = links i;
-      }
+      search (rules, all_same, queue_blank, shelf_blank, message_blank, view_blank, repair_blank, entry_blank, places_same, no_copies, contents_blank, links_same, links_blank_holds)
 
 pub one_empty : OneEmpty
 one_empty m e = is_empty_holds m (unbroken m e)

@@ -1,13 +1,15 @@
 -- The empty machine and the fresh machine of a legal setup are not broken: every slot is blank, and the setup is what it was
 -- made from. Assumes nothing.
-use Prim.Native.Nat.{ℕ, ◌/◌, ◌≤◌, ◌<◌}
+use Prim.Native.Nat.{ℕ, ◌≤◌, ◌<◌}
 use mathlib.Core.Path.{◌≡◌, refl, ap, ◌∙◌}
-use mathlib.Core.Bool.{Bool, true, false, false≢true}
+use mathlib.Core.Bool.{Bool, true, false}
 use mathlib.Core.List.{List}
 use native.Mathlib.Omega.{arith}
 use lib.ListN.{length, get_or, replicate, length-replicate, get_or-replicate}
 use lib.Dec.{ltb}
 use borrow.Author.Tests.{lt-ltb, le-ltb}
+use Rattle.std.proofs.lemmas.Bool.{both_ways, or_from}
+use Rattle.std.proofs.Common.{rules}
 use Rattle.protocol.specs.Words.{pick, bit, table}
 use Rattle.protocol.specs.Slots.{number, place, links_place, no_view, no_queue, no_contents, no_links, no_message, no_repair, no_entry, no_store}
 use Rattle.protocol.specs.Views.{blank_view}
@@ -18,7 +20,6 @@ use Rattle.unbroken.specs.Blank.{Blank}
 use Rattle.unbroken.specs.Unbroken.{SetupKind, none, some, CausesSlot, ViewSlot, QueueSlot, MessageSlot, RepairSlot, EntrySlot, CopySlot, ContentsSlot, LinksSlot, ViewlinkSlot, RowSlot, StoreSlot, Unbroken}
 use Rattle.protocol.specs.declared.View.{View}
 use Rattle.protocol.specs.declared.Store.{Store}
-use Rattle.unbroken.proofs.Laws.Tests.{not_both, nor_both}
 use Rattle.unbroken.proofs.Laws.Every.{length_table, table_at}
 use Rattle.unbroken.proofs.Laws.SlotTests.{legal_says}
 use Rattle.unbroken.proofs.Laws.Whole.{whole}
@@ -33,69 +34,23 @@ row_blank actors l a h k = table_at (of_actors actors l) 8 0 a h ∙ ap (λ b. p
 
 module _ (stores actors : ℕ) (homes lists : List ℕ) where
   kind : SetupKind stores actors homes lists → SetupKind stores actors (table (of_actors actors homes) 8) (table (of_actors actors lists) 8)
-  kind (none a b) = none a b
-  kind (some l) =
-      let top = l.actors8 in
-      some (record {
-        stores2 = l.stores2;
-        stores8 = l.stores8;
-        actors2 = l.actors2;
-        actors8 = top;
-        actor_at = λ a h. rw (row actors homes a (omega arith) h, row actors lists a (omega arith) h) (l.actor_at a h);
-      })
+  kind e = search (rules, row)
 
 pub no_causes : (stores key : ℕ) → CausesSlot stores key 0 (replicate 16 0)
 no_causes stores key =
     record { long = refl; below = λ j b e. no_bit 0 j refl e; link_in = λ j b e. no_bit 0 j refl e; link_blank = λ j b e. get_or-replicate {A = ℕ} 16 j 0 0 b }
 
 blank_view_holds : (stores actors sender v : ℕ) → v < 32 → ViewSlot stores actors 0 sender v blank_view
-blank_view_holds stores actors sender v h =
-    record {
-      causes = no_causes stores (v / 2);
-      store_in = λ b. absurd (omega arith);
-      viewlink_in = λ b. absurd (omega arith);
-      tries3 = λ b. absurd (omega arith);
-      unset = λ b. refl;
-      actor_in = λ b. absurd (omega arith);
-      phase5 = λ b. absurd (omega arith);
-      sender_made = λ b. absurd (omega arith);
-      receiver_causes = λ b. absurd (omega arith);
-      two_actors = λ b. absurd (omega arith);
-      actor_blank = λ b. refl;
-      phase_blank = λ b. refl;
-    }
+blank_view_holds stores actors sender v e = search rules
 
 blank_queue_holds : (actors a : ℕ) (views : List View) → QueueSlot actors views a blank_queue
-blank_queue_holds actors a views =
-    record {
-      long = refl;
-      len16 = omega arith;
-      len_blank = λ h. refl;
-      stands_own = λ i h. absurd (omega arith);
-      stands_from = λ i h. absurd (omega arith);
-      stands_to = λ i h. absurd (omega arith);
-      behind = λ i h. absurd (omega arith);
-      place_blank = λ i h k. get_or-replicate {A = ℕ} 16 i 0 0 h;
-    }
+blank_queue_holds actors a views = search rules
 
 blank_message : (stores phase k : ℕ) → MessageSlot stores 0 phase k no_message
-blank_message stores phase k =
-    record {
-      key_made = λ e. absurd (false≢true e);
-      unreceived = λ e. absurd (false≢true e);
-      own_in = λ e. absurd (false≢true e);
-      sent = λ h. absurd (omega arith);
-      blank = λ e. refl;
-    }
+blank_message stores phase k = search rules
 
 pub blank_repair : (stores phase : ℕ) → RepairSlot stores phase no_repair
-blank_repair stores phase =
-    record {
-      settled = λ e. absurd (false≢true e);
-      destination_in = λ e. absurd (false≢true e);
-      own_in = λ e. absurd (false≢true e);
-      blank = λ e. refl;
-    }
+blank_repair stores phase = search rules
 
 blank_entry : (stores phase : ℕ) → EntrySlot stores phase no_entry
 blank_entry stores phase =
@@ -105,23 +60,10 @@ blank_copies : (stores p least at : ℕ) → CopySlot stores p least at 0
 blank_copies stores p least at = record { copies15 = omega arith; at_store = λ h. absurd (omega arith); at_view = λ h. absurd (omega arith) }
 
 pub blank_contents_holds : (stores p : ℕ) (has : Bool) (w : View) → has ≡ false → ContentsSlot stores p has w no_contents
-blank_contents_holds stores p has w f =
-    record {
-      at_store = λ e. not_both has e f;
-      ready = λ e. not_both has e f;
-      same_actor = λ e. not_both has e f;
-      same_causes = λ e. not_both has e f;
-      same_word = λ e. not_both has e f;
-      blank = λ e. refl;
-    }
+blank_contents_holds stores p has w e = search rules
 
 pub blank_links_holds : (has : Bool) (links to : List ℕ) → has ≡ false → to ≡ replicate 16 0 → LinksSlot has links to
-blank_links_holds has links to f e =
-    record {
-      long = ap length e;
-      same_links = λ j h t. not_both has t f;
-      links_blank = λ j h t. ap (λ (l : List ℕ). get_or l j 0) e ∙ get_or-replicate {A = ℕ} 16 j 0 0 h;
-    }
+blank_links_holds has links to e f = search rules
 
 blank_viewlink : (stores p v : ℕ) → ViewlinkSlot stores 0 p v 0
 blank_viewlink stores p v = record { link_in = omega arith; at_store = λ h. absurd (omega arith); at_view = λ h. absurd (omega arith) }
@@ -130,16 +72,7 @@ blank_row : (stores p : ℕ) → RowSlot stores 0 p (replicate 32 0)
 blank_row stores p = record { long = refl; link_at = λ v h. rw (get_or-replicate {A = ℕ} 32 v 0 0 h) (blank_viewlink stores p v) }
 
 fresh_store_holds : (stores p : ℕ) → StoreSlot stores 0 p (fresh_store (ltb p stores))
-fresh_store_holds stores p =
-    record {
-      up_blank = le-ltb p stores;
-      held_blank = λ h. refl;
-      kept_blank = λ h. refl;
-      acks_blank = λ h. refl;
-      uacks_blank = λ h. refl;
-      working = blank_row stores p;
-      checkpointed = blank_row stores p;
-    }
+fresh_store_holds stores p = search (rules, le-ltb, blank_row)
 
 store_at_holds : (stores p : ℕ) → p < 8 → get_or (table (λ q. fresh_store (ltb q stores)) 8) p no_store ≡ fresh_store (ltb p stores)
 store_at_holds stores p h = table_at (λ q. fresh_store (ltb q stores)) 8 no_store p h
@@ -157,7 +90,7 @@ module _ (stores actors : ℕ) (homes lists : List ℕ) where
   place_in p v hp hv = omega arith
 
   none_had : (p v : ℕ) → p < 8 → has_in (get_or (table (λ q. fresh_store (ltb q stores)) 8) p no_store) v ≡ false
-  none_had p v h = nor_both _ _ (fresh_set stores p v (λ s. s.held) (λ up. refl) h) (fresh_set stores p v (λ s. s.kept) (λ up. refl) h)
+  none_had p v h = or_from _ _ (fresh_set stores p v (λ s. s.held) (λ up. refl) h) (fresh_set stores p v (λ s. s.kept) (λ up. refl) h)
 
   pub fresh_slots : SetupKind stores actors homes lists → Unbroken (fresh_with stores actors homes lists)
   unfolding fresh_with
@@ -198,8 +131,8 @@ module _ (stores actors : ℕ) (homes lists : List ℕ) where
             blank_links_holds _ _ _ (none_had p (number k 0) hp)
             (ap (λ l. l.to) (get_or-replicate 128 (links_place p k) blank_links no_links (omega arith)));
         store_at = λ p h. rw (store_at_holds stores p h) (fresh_store_holds stores p);
-        ack_owed = λ p v hp hv e. not_both _ e (fresh_set stores p v (λ s. s.acksowed) (λ up. refl) hp);
-        uack_owed = λ p v hp hv e. not_both _ e (fresh_set stores p v (λ s. s.uacksowed) (λ up. refl) hp);
+        ack_owed = λ p v hp hv e. absurd (both_ways _ (fresh_set stores p v (λ s. s.acksowed) (λ up. refl) hp) e);
+        uack_owed = λ p v hp hv e. absurd (both_ways _ (fresh_set stores p v (λ s. s.uacksowed) (λ up. refl) hp) e);
       }
 
 pub fresh_unbroken : (stores actors : ℕ) (homes lists : List ℕ) → legal stores actors homes lists ≡ true → length homes ≡ 8 → length lists ≡ 8 → broken_of (fresh_with stores actors homes lists) ≡ false
@@ -229,12 +162,6 @@ fresh_blank stores actors homes lists =
       held = λ p v hp hv. get_or-replicate 256 (place p v) no_contents no_contents (omega arith);
       links = λ p k hp hk. ap (λ l. l.to) (get_or-replicate 128 (links_place p k) blank_links no_links (omega arith));
     }
-
-pub fresh_setup : (stores actors : ℕ) (homes lists : List ℕ) (a : ℕ) → a < 8 → a < actors
-    → ((fresh_with stores actors homes lists).stores ≡ stores) × ((fresh_with stores actors homes lists).actors ≡ actors)
-    × (get_or (fresh_with stores actors homes lists).homes a 0 ≡ get_or homes a 0) × (get_or (fresh_with stores actors homes lists).lists a 0 ≡ get_or lists a 0)
-unfolding fresh_with
-fresh_setup stores actors homes lists a h k = (refl, refl, row actors homes a h k, row actors lists a h k)
 
 pub empty_blank : Blank empty_machine
 unfolding empty_machine

@@ -1,16 +1,16 @@
 -- The lowest number that applies, from tests in the order of their numbers: each number applies exactly if its test holds, so the first
 -- test that holds gives the lowest. Assumes nothing.
 use Prim.Native.Nat.{ℕ, suc, ◌≤◌, ◌<◌}
-use mathlib.Core.Path.{◌≡◌, refl, sym, subst, ◌∙◌}
-use mathlib.Core.Logic.{◌≢◌, ◌⊎◌, inl, inr, ⊎_elim}
+use mathlib.Core.Path.{◌≡◌, refl, subst}
+use mathlib.Core.Logic.{◌≢◌, ◌⊎◌, ⊎_elim}
 use mathlib.Core.Bool.{Bool, true, false, ◌&&◌}
 use mathlib.Core.List.{List, [], ◌∷◌}
 use native.Mathlib.Omega.{arith}
-use native.Mathlib.Decide.{ℕ_discrete, dec_lt}
 use lib.Dec.{leb}
 use borrow.Author.Tests.{leb-true}
+use Rattle.std.proofs.lemmas.Bool.{and_parts}
+use Rattle.std.proofs.Common.{rules}
 use Rattle.protocol.specs.Words.{pick}
-use Rattle.unbroken.proofs.Laws.Tests.{and_left, and_right, not_both}
 use Rattle.unbroken.proofs.Laws.Says.{Says, Splits}
 use Rattle.unbroken.specs.Lowest.{IsLowest}
 
@@ -28,25 +28,7 @@ module _ {P : ℕ → Type 0} {k : ℕ} where
   -- no number applies below the next test's, and that one exactly if the test holds
   pub from_test : {test : Bool} {n rest : ℕ} → 1 ≤ k → k ≤ n → Says test (P n) → ((i : ℕ) → k ≤ i → i < n → P i → ⊥)
       → (test ≡ false → LowestFrom P (suc n) rest) → LowestFrom P k (pick test n rest)
-  from_test {test} {n} {rest} one l s gap r = go test refl
-    where
-      go : (t : Bool) → test ≡ t → LowestFrom P k (pick t n rest)
-      go true e =
-          record {
-            low = λ z. l;
-            applies = λ z. s.tells e;
-            first = λ i h p. (λ z. absurd (omega arith), elim (dec_lt i n) [ yes b ↦ absurd (gap i h b p) | no b ↦ omega arith ]);
-          }
-      go false e =
-          let q : LowestFrom P (suc n) rest = r e in
-          record {
-            low = λ z. omega (arith, q.low z);
-            applies = q.applies;
-            first = λ i h p. elim (dec_lt i n) [
-              | yes b ↦ absurd (gap i h b p)
-              | no b ↦ elim (ℕ_discrete i n) [ yes c ↦ not_both test (s.told (subst P c p)) e | no c ↦ q.first i (omega arith) p ]
-            ];
-          }
+  from_test e f g h i = search rules
 
 -- the same of another family that says the same
 pub lowest_put : {P Q : ℕ → Type 0} {k x : ℕ} → ((n : ℕ) → P n → Q n) → ((n : ℕ) → k ≤ n → Q n → P n) → LowestFrom P k x → LowestFrom Q k x
@@ -54,26 +36,11 @@ lowest_put {P} {Q} {k} {x} f g q = record { low = q.low; applies = λ z. f x (q.
 
 -- where 0 never applies, the lowest from 1 on is the lowest
 pub lowest : {P : ℕ → Type 0} {x : ℕ} → (P 0 → ⊥) → LowestFrom P 1 x → IsLowest P x
-lowest {P} {x} z q =
-    record {
-      given = λ n h. (
-        λ e. (subst P e (q.applies (λ y. h (sym e ∙ y))), λ i b p. elim (ℕ_discrete i 0) [ yes c ↦ z (subst P c p) | no c ↦ (let d : x ≤ i = (q.first i (omega arith) p).1 in omega arith) ]),
-        λ a. let d : (x ≢ 0) × (x ≤ n) = q.first n (omega arith) a.0 in let u : x ≤ n = d.1 in
-            elim (dec_lt x n) [ yes b ↦ absurd (a.1 x b (q.applies d.0)) | no b ↦ omega arith ],
-      );
-      none = (
-        λ e n p. elim (ℕ_discrete n 0) [ yes c ↦ z (subst P c p) | no c ↦ (q.first n (omega arith) p).0 e ],
-        λ f. elim (ℕ_discrete x 0) [ yes c ↦ c | no c ↦ absurd (f x (q.applies c)) ],
-      );
-    }
+lowest e f = search rules
 
 -- a test that holds exactly if the other fact doesn't
 pub lacks : {b : Bool} {P N : Type 0} → Splits b P N → Says b (N → ⊥)
-lacks {b} {P} {N} s = record { tells = λ e n. not_both b e (s.failed n); told = λ h. go b refl h }
-  where
-    go : (t : Bool) → b ≡ t → (N → ⊥) → t ≡ true
-    go true e h = refl
-    go false e h = absurd (h (s.fails e))
+lacks e = search rules
 
 -- tests with their numbers, in the order of these
 pub record Test : Type 0 where
@@ -107,16 +74,13 @@ each_has P (t ∷ ts) n e h = ⊎_elim (λ x. subst P x.0 (e.0 x.1)) (λ g. each
 pub has_low : (ts : List Test) (k n : ℕ) → rising k ts ≡ true → Has n ts → k ≤ n
 has_low [] k n r h = absurd h
 has_low (t ∷ ts) k n r h =
-    let l : k ≤ t.number = leb-true k t.number (and_left (leb k t.number) (rising (suc t.number) ts) r) in
-    ⊎_elim (λ e. omega (arith, e.0)) (λ g. omega (arith, has_low ts (suc t.number) n (and_right (leb k t.number) (rising (suc t.number) ts) r) g)) h
+    let l : k ≤ t.number = leb-true k t.number (and_parts (leb k t.number) (rising (suc t.number) ts) r).0 in
+    ⊎_elim (λ e. omega (arith, e.0)) (λ g. omega (arith, has_low ts (suc t.number) n (and_parts (leb k t.number) (rising (suc t.number) ts) r).1 g)) h
 
 pub tests_lowest : (ts : List Test) (k : ℕ) → 1 ≤ k → rising k ts ≡ true → LowestFrom (λ n. Has n ts) k (first ts)
 tests_lowest [] k one r = from_none (λ i l h. h)
 tests_lowest (t ∷ ts) k one r =
     let n : ℕ = t.number in
-    let l : k ≤ n = leb-true k n (and_left (leb k n) (rising (suc n) ts) r) in
-    let r' : rising (suc n) ts ≡ true = and_right (leb k n) (rising (suc n) ts) r in
-    from_test {P = λ i. Has i (t ∷ ts)} one l
-    (record { tells = λ e. inl (refl, e); told = λ h. ⊎_elim (λ e. e.1) (λ g. absurd (omega (arith, has_low ts (suc n) n r' g))) h })
-    (λ i a b h. ⊎_elim (λ e. omega (arith, e.0)) (λ g. omega (arith, has_low ts (suc n) i r' g)) h)
-    (λ e. lowest_put (λ i h. inr h) (λ i a h. ⊎_elim (λ x. absurd (omega (arith, x.0))) (λ g. g) h) (tests_lowest ts (suc n) (omega arith) r'))
+    let l : k ≤ n = leb-true k n (and_parts (leb k n) (rising (suc n) ts) r).0 in
+    let r' : rising (suc n) ts ≡ true = (and_parts (leb k n) (rising (suc n) ts) r).1 in
+    search (rules, leb-true, and_parts, from_test, has_low, lowest_put, tests_lowest ts (suc n) (omega arith) r')

@@ -6,11 +6,12 @@ use mathlib.Core.Logic.{◌≢◌}
 use mathlib.Core.Bool.{false}
 use mathlib.Core.List.{List}
 use native.Mathlib.Omega.{arith}
-use native.Mathlib.Decide.{dec_lt, ℕ_discrete}
+use native.Mathlib.Decide.{ℕ_discrete}
 use lib.ListN.{length, get_or, length-take, get_or-eq_default}
 use lib.Seq.{get_or-take}
+use Rattle.std.proofs.Common.{rules}
 use Rattle.protocol.specs.Words.{times}
-use Rattle.protocol.specs.Slots.{number, no_view, status_number, home, list, queue, standing, view, entry}
+use Rattle.protocol.specs.Slots.{number, status_number, home, list, queue, standing, view, entry}
 use Rattle.protocol.specs.Broken.{broken_of}
 use Rattle.unbroken.specs.Bounds.{Bounds}
 use Rattle.unbroken.specs.Unbroken.{LegalActor, SetupKind, none, some, Unbroken}
@@ -41,19 +42,11 @@ module _ (m : State) (s : Unbroken m) where
 
   -- a view of no interaction is in phase 0
   pub unmade_view : (v : ℕ) → m.made * 2 ≤ v → (view m v).phase ≡ 0
-  unmade_view v h = go (dec_lt v 32)
-    where
-      go : Dec (v < 32) → (view m v).phase ≡ 0
-      go (yes b) = (s.view_at v b).phase_blank h
-      go (no b) = ap (λ (w : View). w.phase) (get_or-eq_default m.views no_view (omega (arith, s.sized.views)))
+  unmade_view v e = search (rules, get_or-eq_default)
 
   -- .. so one in a phase from 1 on is one of an interaction that is made
   pub made_view_holds : (v : ℕ) → 1 ≤ (view m v).phase → v < m.made * 2
-  made_view_holds v h = go (dec_lt v (m.made * 2))
-    where
-      go : Dec (v < m.made * 2) → v < m.made * 2
-      go (yes q) = q
-      go (no q) = absurd (omega (arith, unmade_view v (omega arith)))
+  made_view_holds v e = search (rules, unmade_view)
 
   pub made_32 : (v : ℕ) → v < m.made * 2 → v < 32
   made_32 v h = omega (arith, s.made16)
@@ -74,11 +67,7 @@ module _ (m : State) (s : Unbroken m) where
 
     -- a view that stands is one of this actor, in a phase from 1 to 4
     pub stands : (P : ℕ → Type 0) → ((v : ℕ) → (view m v).actor ≡ a → 1 ≤ (view m v).phase → (view m v).phase ≤ 4 → P v) → (i : ℕ) → i < length (standing (queue m a)) → P (get_or (standing (queue m a)) i 0)
-    stands P f i h =
-        let r = standing_long in
-        let q = s.queue_at a ha in
-        let k : i < (queue m a).len = omega arith in
-        subst P (sym (standing_at i h)) (f (get_or (queue m a).views i 0) (q.stands_own i k) (q.stands_from i k) (q.stands_to i k))
+    stands P e i f = search (rules, standing_long, standing_at)
 
     stands_made : (i : ℕ) → i < length (standing (queue m a)) → get_or (standing (queue m a)) i 0 < m.made * 2
     stands_made = stands (λ v. v < m.made * 2) (λ v x y z. made_view_holds v y)
@@ -95,16 +84,7 @@ module _ (m : State) (s : Unbroken m) where
         times_none v (standing (queue m a)) (stands (λ u. u ≢ v) (λ u x y z e. let p = subst (λ (k : ℕ). (view m k).phase ≤ 4) e z in omega arith))
 
     at_most_once : (v : ℕ) → v < 32 → times v (standing (queue m a)) ≤ 1
-    at_most_once v h = go (ℕ_discrete (view m v).actor a) (ℕ_discrete (view m v).phase 0) (dec_lt (view m v).phase 5)
-      where
-        go : Dec ((view m v).actor ≡ a) → Dec ((view m v).phase ≡ 0) → Dec ((view m v).phase < 5) → times v (standing (queue m a)) ≤ 1
-        go (no n) d f = let r = other_absent v n in omega arith
-        go (yes e) (yes z) f = let r = unmade_absent v z in omega arith
-        go (yes e) (no z) (no f) = let r = settled_absent v (omega arith) in omega arith
-        go (yes e) (no z) (yes f) =
-            let r = s.queued_once v h (omega arith) (omega arith) in
-            let t = subst (λ (k : ℕ). times v (standing (queue m k)) ≡ 1) e r in
-            omega arith
+    at_most_once v e = search (rules, other_absent, unmade_absent, settled_absent)
 
     one_of_two : (k : ℕ) → k < m.made → times (k * 2) (standing (queue m a)) + times (k * 2 + 1) (standing (queue m a)) ≤ 1
     one_of_two k h = go (ℕ_discrete (view m (k * 2)).actor a)
@@ -129,26 +109,14 @@ module _ (m : State) (s : Unbroken m) where
     queue_fewer k h x y = let r = fewer (standing (queue m a)) m.made k stands_made one_of_two h (omega arith) in let l = standing_long in omega arith
 
   head_32 : (a : ℕ) → a < 8 → get_or (queue m a).views 0 0 < 32
-  head_32 a h = go (dec_lt 0 (queue m a).len)
-    where
-      go : Dec (0 < (queue m a).len) → get_or (queue m a).views 0 0 < 32
-      go (yes q) = view_32 (get_or (queue m a).views 0 0) ((s.queue_at a h).stands_from 0 q)
-      go (no q) = let z = (s.queue_at a h).place_blank 0 (omega arith) (omega arith) in omega arith
+  head_32 a e = search (rules, view_32)
 
   actor_8 : (v : ℕ) → v < 32 → (view m v).actor < 8
-  actor_8 v h = go (dec_lt v (m.made * 2))
-    where
-      go : Dec (v < m.made * 2) → (view m v).actor < 8
-      go (yes q) = let r = (s.view_at v h).actor_in q in let t = actors8 in omega arith
-      go (no q) = let r = (s.view_at v h).actor_blank (omega arith) in omega arith
+  actor_8 v e = search rules
 
   -- a number that is below the stores, or 0
   below_8 : (c x : ℕ) → (1 ≤ c → x < m.stores) → (c ≡ 0 → x ≡ 0) → x < 8
-  below_8 c x f g = go (ℕ_discrete c 0)
-    where
-      go : Dec (c ≡ 0) → x < 8
-      go (yes e) = let r = g e in omega arith
-      go (no e) = let r = f (omega arith) in let t = stores8 in omega arith
+  below_8 c x e f = search rules
 
   receive_room_holds : (k : ℕ) → k < m.made → (view m (number k 1)).phase ≡ 0 → (queue m (view m (number k 1)).actor).len < 16
   receive_room_holds k h e =

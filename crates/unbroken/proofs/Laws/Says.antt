@@ -7,8 +7,10 @@ use native.Mathlib.Omega.{arith}
 use lib.ListN.{length, get_or}
 use lib.Dec.{ltb, leb, eqb}
 use borrow.Author.Tests.{ltb-true, ltb-false, leb-true, leb-false, eqb-true, eqb-false, not-true, not-false, lt-ltb, le-ltb, le-leb, lt-leb, eq-eqb, ne_eqb}
+use Rattle.std.proofs.lemmas.Bool.{and_from, and_parts, both_ways, not_from_false, not_from_true}
+use Rattle.std.proofs.Common.{rules}
 use Rattle.protocol.specs.Words.{pick, all, all_below}
-use Rattle.unbroken.proofs.Laws.Tests.{and_left, and_right, and_both, or_else, or_of, not_of, not_back, pick_then, pick_else, pick_of, by_test, not_both}
+use Rattle.unbroken.proofs.Laws.Tests.{or_else, or_of, by_test}
 use Rattle.unbroken.proofs.Laws.Every.{all_at, all_each, below_at, below_each}
 
 pub record Says (b : Bool) (P : Type 0) : Type 0 where
@@ -54,20 +56,16 @@ is_splits b = record { holds = is_says b; fails = λ e. e; failed = λ e. e }
 module _ {a b : Bool} {A B : Type 0} where
   pub and_says : Says a A → Says b B → Says (a && b) (A × B)
   and_says x y =
-      record { tells = λ e. (x.tells (and_left a b e), y.tells (and_right a b e)); told = λ p. and_both a b (x.told p.0) (y.told p.1) }
+      record { tells = λ e. (x.tells (and_parts a b e).0, y.tells (and_parts a b e).1); told = λ p. and_from a b (x.told p.0) (y.told p.1) }
 
   pub or_says : {N : Type 0} → Splits a A N → Says b B → Says (a || b) (N → B)
   or_says x y = record { tells = λ e n. y.tells (or_else a b e (x.failed n)); told = λ f. or_of a b (λ h. y.told (f (x.fails h))) }
 
 pub not_says : {a : Bool} {A N : Type 0} → Splits a A N → Says (not a) N
-not_says {a} x = record { tells = λ e. x.fails (not-true a e); told = λ n. not_of a (x.failed n) }
+not_says {a} x = record { tells = λ e. x.fails (not-true a e); told = λ n. not_from_false a (x.failed n) }
 
 pub pick_says : {c a b : Bool} {P N A B : Type 0} → Splits c P N → Says a A → Says b B → Says (pick c a b) ((P → A) × (N → B))
-pick_says {c} {a} {b} s x y =
-    record {
-      tells = λ e. (λ p. x.tells (pick_then c a b e (s.holds.told p)), λ n. y.tells (pick_else c a b e (s.failed n)));
-      told = λ f. pick_of c a b (λ h. x.told (f.0 (s.holds.tells h))) (λ h. y.told (f.1 (s.fails h)));
-    }
+pick_says e f g = search rules
 
 pub all_says : {A : Type 0} (p : ℕ → A → Bool) (P : ℕ → A → Type 0) (l : List A) (d : A) → ((i : ℕ) (x : A) → Says (p i x) (P i x)) → Says (all p l) ((i : ℕ) → i < length l → P i (get_or l i d))
 all_says p P l d s =
@@ -83,10 +81,10 @@ below_says n p P s =
 -- a test that fails says that its fact doesn't hold
 pub un_splits : {b : Bool} {P : Type 0} → Says b P → Splits b P (P → ⊥)
 un_splits {b} s =
-    record { holds = s; fails = λ e p. not_both b (s.told p) e; failed = λ h. by_test b (λ e. absurd (h (s.tells e))) (λ e. e) }
+    record { holds = s; fails = λ e p. absurd (both_ways b e (s.told p)); failed = λ h. by_test b (λ e. absurd (h (s.tells e))) (λ e. e) }
 
 pub not_splits : {a : Bool} {A N : Type 0} → Splits a A N → Splits (not a) N A
-not_splits {a} s = record { holds = not_says s; fails = λ e. s.holds.tells (not-false a e); failed = λ p. not_back a (s.holds.told p) }
+not_splits {a} s = record { holds = not_says s; fails = λ e. s.holds.tells (not-false a e); failed = λ p. not_from_true a (s.holds.told p) }
 
 -- the same fact in other words
 pub put_says : {b : Bool} {P Q : Type 0} → Says b P → (P → Q) → (Q → P) → Says b Q

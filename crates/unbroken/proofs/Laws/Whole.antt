@@ -8,42 +8,20 @@ use native.Mathlib.Omega.{arith}
 use lib.ListN.{length, get_or}
 use lib.Dec.{ltb, leb, eqb}
 use borrow.Author.Tests.{not-false}
+use Rattle.std.proofs.lemmas.Bool.{not_from_true}
+use Rattle.std.proofs.Common.{rules}
 use Rattle.protocol.specs.Slots.{number, place, links_place, no_view, no_queue, no_contents, no_links, no_message, no_repair, no_entry, no_store, status_number}
 use Rattle.protocol.specs.Slots.{view, queue, entry, shelf}
 use Rattle.protocol.specs.Sweep.{has_contents}
 use Rattle.protocol.specs.Broken.{slots_fine, setup_fine, rows_fine, view_fine, queue_fine, message_fine, repair_fine, entry_fine, copies_fine, records_fine, updates_fine, contents_fine, held_links_fine, store_fine, jobs_fine, places_fine, whole_of, broken_of}
 use Rattle.unbroken.specs.Unbroken.{Sized, QueueSlot, MessageSlot, RepairSlot, EntrySlot, CopySlot, ContentsSlot, LinksSlot, Unbroken}
 use Rattle.protocol.specs.declared.State.{State}
-use Rattle.unbroken.proofs.Laws.Tests.{not_back}
 use Rattle.unbroken.proofs.Laws.Says.{Says, le_says, eq_says, is_says, lt_splits, and_says, or_says, all_says, put_says}
 use Rattle.unbroken.proofs.Laws.SlotTests.{ViewKept, view_says, queue_says, message_says, repair_says, entry_says, copies_says, contents_says, held_links_says, StoreKept, store_says, setup_says}
 
 slots_say : (m : State) → Says (slots_fine m) (Sized m)
 unfolding slots_fine
-slots_say m =
-    put_says
-    (and_says (and_says (and_says (and_says (and_says (and_says (and_says (and_says (and_says (and_says (and_says (and_says (and_says
-    (eq_says (length m.homes) 8) (eq_says (length m.lists) 8)) (eq_says (length m.queues) 8)) (eq_says (length m.shelves) 8))
-    (eq_says (length m.messages) 16)) (eq_says (length m.views) 32)) (eq_says (length m.repairs) 32)) (eq_says (length m.entries) 32))
-    (eq_says (length m.records) 256)) (eq_says (length m.acks) 256)) (eq_says (length m.updates) 256)) (eq_says (length m.uacks) 256))
-    (eq_says (length m.contents) 256)) (eq_says (length m.links) 128))
-    (λ x. record {
-      homes = x.0.0.0.0.0.0.0.0.0.0.0.0.0;
-      lists = x.0.0.0.0.0.0.0.0.0.0.0.0.1;
-      queues = x.0.0.0.0.0.0.0.0.0.0.0.1;
-      shelves = x.0.0.0.0.0.0.0.0.0.0.1;
-      messages = x.0.0.0.0.0.0.0.0.0.1;
-      views = x.0.0.0.0.0.0.0.0.1;
-      repairs = x.0.0.0.0.0.0.0.1;
-      entries = x.0.0.0.0.0.0.1;
-      records = x.0.0.0.0.0.1;
-      acks = x.0.0.0.0.1;
-      updates = x.0.0.0.1;
-      uacks = x.0.0.1;
-      contents = x.0.1;
-      links = x.1;
-    })
-    (λ s. (((((((((((((s.homes, s.lists), s.queues), s.shelves), s.messages), s.views), s.repairs), s.entries), s.records), s.acks), s.updates), s.uacks), s.contents), s.links))
+slots_say m = search rules
 
 -- by place: the store and the view of a place, and back
 module _ (P : ℕ → ℕ → ℕ → Type 0) (n : ℕ) where
@@ -146,9 +124,7 @@ module _ (m : State) where
 
   parts_say : Says (whole_of m) Parts
   unfolding whole_of
-  parts_say =
-      and_says (and_says (and_says (and_says (and_says (and_says (slots_say m) (le_says m.made 16))
-      (is_says (setup_fine m.stores m.actors m.homes m.lists))) (rows_say m.homes)) (rows_say m.lists)) jobs_say) places_say
+  parts_say = search (rules, and_says, slots_say, le_says, is_says, rows_say, jobs_say, places_say)
 
   -- the places of the arrays, by store and view
   abbrev CopyAt : ℕ → (ℕ → ℕ) → List ℕ → ℕ → ℕ → ℕ → Type 0
@@ -236,4 +212,4 @@ unbroken m e = (whole_says m).tells (not-false (whole_of m) e)
 -- .. and one that has them all is not broken
 pub whole : (m : State) → Unbroken m → broken_of m ≡ false
 unfolding broken_of
-whole m s = not_back (whole_of m) ((whole_says m).told s)
+whole m s = not_from_true (whole_of m) ((whole_says m).told s)
