@@ -1,10 +1,3 @@
-pub mod Causes
-pub mod Full
-pub mod Marked
+pub mod Words
 pub mod Meet
-pub mod Members
-pub mod Packed
-pub mod Rooms
-pub mod Same
-pub mod Slots
-pub mod Statuses
+pub mod Marked

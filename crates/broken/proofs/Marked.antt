@@ -19,14 +19,14 @@ use Rattle.protocol.specs.declared.View.{View}
 use Rattle.protocol.specs.declared.Queue.{Queue}
 use Rattle.unbroken.proofs.Laws.Bits.{bit_none, joined_bit}
 use Rattle.unbroken.proofs.Laws.Every.{all_at, all_each}
-use Rattle.unbroken.proofs.Laws.Tests.{and_left, and_right, and_both, or_else, or_of, pick_then, pick_else, pick_of, by_test, not_both, not_of, not_back}
-use Rattle.unbroken.proofs.Pass.{and_false}
-use Rattle.broken.proofs.Same.{all_same}
-use Rattle.broken.specs.Marks.{all_met, marks_after, place_met, blank_behind, queue_met, queue_marks, queues_met, marks_of, waits_met, view_met}
+use Rattle.std.proofs.Math.Bool.{and-false}
+use Rattle.std.proofs.lemmas.Bool.{and_from, and_parts, not_from_false, not_from_true}
+use Rattle.unbroken.proofs.Laws.Tests.{or_else, or_of, pick_then, pick_else, pick_of, by_test}
+use Rattle.broken.proofs.Words.{all_same, and_true}
+use Rattle.broken.specs.Marks.{all_met, marks_after, place_met, queue_met, queue_marks, queues_met, marks_of, waits_met, view_met}
 
-pub and_true : (t : Bool) → (t && true) ≡ t
-and_true true = refl
-and_true false = refl
+not_both : {P : Type 0} (c : Bool) → c ≡ true → c ≡ false → P
+not_both c h k = absurd (false≢true (sym k ∙ h))
 
 one_or : (a b : Bool) → (b ≡ true → a ≡ false) → one (a || b) ≡ one a + one b
 one_or true true f = absurd (false≢true (sym (f refl)))
@@ -59,17 +59,17 @@ met_free : (views : List View) (a marks i v : ℕ) (l : List ℕ) → met views 
 unfolding all_met
 met_free views a marks i v l e =
     not-true (bit marks v)
-    (and_left (not (bit marks v)) (waits_at a i (get_or views v no_view)) (and_left (place_met views a marks i v) (met views a (joined marks v) (suc i) l) e))
+    (and_parts (not (bit marks v)) (waits_at a i (get_or views v no_view)) (and_parts (place_met views a marks i v) (met views a (joined marks v) (i + 1) l) e).0).0
 
-met_rest : (views : List View) (a marks i v : ℕ) (l : List ℕ) → met views a marks i (v ∷ l) ≡ true → met views a (joined marks v) (suc i) l ≡ true
+met_rest : (views : List View) (a marks i v : ℕ) (l : List ℕ) → met views a marks i (v ∷ l) ≡ true → met views a (joined marks v) (i + 1) l ≡ true
 unfolding all_met
-met_rest views a marks i v l e = and_right (place_met views a marks i v) (met views a (joined marks v) (suc i) l) e
+met_rest views a marks i v l e = (and_parts (place_met views a marks i v) (met views a (joined marks v) (i + 1) l) e).1
 
 met_bits : (views : List View) (a marks i : ℕ) (l : List ℕ) → met views a marks i l ≡ true → (w : ℕ) → one (bit (marks_after joined marks l) w) ≡ one (bit marks w) + times w l
 unfolding marks_after times
 met_bits views a marks i [] e w = omega arith
 met_bits views a marks i (v ∷ l) e w =
-    let r = met_bits views a (joined marks v) (suc i) l (met_rest views a marks i v l e) w in
+    let r = met_bits views a (joined marks v) (i + 1) l (met_rest views a marks i v l e) w in
     let k = mark_one marks v w (met_free views a marks i v l e) in
     omega arith
 
@@ -77,9 +77,9 @@ met_waiting : (views : List View) (a marks i : ℕ) (l : List ℕ) → met views
 unfolding all_met all_from
 met_waiting views a marks i [] e = refl
 met_waiting views a marks i (v ∷ l) e =
-    and_both (waits_at a i (get_or views v no_view)) (waiting views a (suc i) l)
-    (and_right (not (bit marks v)) (waits_at a i (get_or views v no_view)) (and_left (place_met views a marks i v) (met views a (joined marks v) (suc i) l) e))
-    (met_waiting views a (joined marks v) (suc i) l (met_rest views a marks i v l e))
+    and_from (waits_at a i (get_or views v no_view)) (waiting views a (i + 1) l)
+    (and_parts (not (bit marks v)) (waits_at a i (get_or views v no_view)) (and_parts (place_met views a marks i v) (met views a (joined marks v) (i + 1) l) e).0).1
+    (met_waiting views a (joined marks v) (i + 1) l (met_rest views a marks i v l e))
 
 waiting_met : (views : List View) (a marks i : ℕ) (l : List ℕ) → waiting views a i l ≡ true → ((w : ℕ) → one (bit marks w) + times w l ≤ 1) → met views a marks i l ≡ true
 unfolding all_met all_from times
@@ -88,9 +88,9 @@ waiting_met views a marks i (v ∷ l) e few =
     let self = ap one (eq-eqb v v refl) in
     let once = few v in
     let free = one_few (bit marks v) (omega arith) in
-    and_both (place_met views a marks i v) (met views a (joined marks v) (suc i) l)
-    (and_both (not (bit marks v)) (waits_at a i (get_or views v no_view)) (not_of (bit marks v) free) (and_left (waits_at a i (get_or views v no_view)) (waiting views a (suc i) l) e))
-    (waiting_met views a (joined marks v) (suc i) l (and_right (waits_at a i (get_or views v no_view)) (waiting views a (suc i) l) e) (λ w. let k = mark_one marks v w free in let q = few w in omega arith))
+    and_from (place_met views a marks i v) (met views a (joined marks v) (i + 1) l)
+    (and_from (not (bit marks v)) (waits_at a i (get_or views v no_view)) (not_from_false (bit marks v) free) (and_parts (waits_at a i (get_or views v no_view)) (waiting views a (i + 1) l) e).0)
+    (waiting_met views a (joined marks v) (i + 1) l (and_parts (waits_at a i (get_or views v no_view)) (waiting views a (i + 1) l) e).1 (λ w. let k = mark_one marks v w free in let q = few w in omega arith))
 
 -- a queue whose places are fine is blank behind its end, and its views wait
 abbrev behind : ℕ → ℕ → ℕ → Bool
@@ -123,7 +123,7 @@ all_four true true false s e = absurd (false≢true e)
 all_four true true true s e = (refl, refl, refl, e)
 
 of_four : (l m r s : Bool) → l ≡ true → m ≡ true → r ≡ true → s ≡ true → l && m && r && s ≡ true
-of_four l m r s e f g h = and_both (l && m && r) s (and_both (l && m) r (and_both l m e f) g) h
+of_four l m r s e f g h = and_from (l && m && r) s (and_from (l && m) r (and_from l m e f) g) h
 
 abbrev long : Queue → Bool
 long q = eqb (length q.views) 16
@@ -142,8 +142,8 @@ queue_met_fine : (actors : ℕ) (views : List View) (marks a : ℕ) (q : Queue) 
 unfolding queue_met queue_fine
 queue_met_fine actors views marks a q e =
     let x = all_four (long q) (leb q.len 16) (row actors a q && all (behind q.len) q.views) (met views a marks 0 (standing q)) e in
-    of_four (long q) (leb q.len 16) (row actors a q) (all (stands_fine views a q.len) q.views) x.0 x.1 (and_left (row actors a q) (all (behind q.len) q.views) x.2)
-    (waiting_fine views a q.len q.views (room q x.0 x.1) (and_right (row actors a q) (all (behind q.len) q.views) x.2) (met_waiting views a marks 0 (standing q) x.3))
+    of_four (long q) (leb q.len 16) (row actors a q) (all (stands_fine views a q.len) q.views) x.0 x.1 (and_parts (row actors a q) (all (behind q.len) q.views) x.2).0
+    (waiting_fine views a q.len q.views (room q x.0 x.1) (and_parts (row actors a q) (all (behind q.len) q.views) x.2).1 (met_waiting views a marks 0 (standing q) x.3))
 
 queue_fine_waiting : (actors : ℕ) (views : List View) (a : ℕ) (q : Queue) → queue_fine actors views a q ≡ true → waiting views a 0 (standing q) ≡ true
 unfolding queue_fine
@@ -156,7 +156,7 @@ unfolding queue_met queue_fine
 queue_fine_met actors views marks a q e few =
     let x = all_four (long q) (leb q.len 16) (row actors a q) (all (stands_fine views a q.len) q.views) e in
     of_four (long q) (leb q.len 16) (row actors a q && all (behind q.len) q.views) (met views a marks 0 (standing q)) x.0 x.1
-    (and_both (row actors a q) (all (behind q.len) q.views) x.2 (fine_behind views a q.len q.views x.3))
+    (and_from (row actors a q) (all (behind q.len) q.views) x.2 (fine_behind views a q.len q.views x.3))
     (waiting_met views a marks 0 (standing q) (queue_fine_waiting actors views a q e) few)
 
 -- how often a view stands in queues
@@ -174,27 +174,27 @@ queues_bits : (actors : ℕ) (views : List View) (marks a : ℕ) (qs : List Queu
 unfolding all_met marks_after times_in queue_marks
 queues_bits actors views marks a [] e w = omega arith
 queues_bits actors views marks a (q ∷ qs) e w =
-    let first = and_left (queue_met actors views marks a q) (all_queues_met actors views (queue_marks marks q) (suc a) qs) e in
+    let first = (and_parts (queue_met actors views marks a q) (all_queues_met actors views (queue_marks marks q) (a + 1) qs) e).0 in
     let k = met_bits views a marks 0 (standing q) (queue_met_places actors views marks a q first) w in
-    let r = queues_bits actors views (queue_marks marks q) (suc a) qs (and_right (queue_met actors views marks a q) (all_queues_met actors views (queue_marks marks q) (suc a) qs) e) w in
+    let r = queues_bits actors views (queue_marks marks q) (a + 1) qs (and_parts (queue_met actors views marks a q) (all_queues_met actors views (queue_marks marks q) (a + 1) qs) e).1 w in
     omega arith
 
 queues_fine : (actors : ℕ) (views : List View) (marks a : ℕ) (qs : List Queue) → all_queues_met actors views marks a qs ≡ true → all_fine actors views a qs ≡ true
 unfolding all_met all_from
 queues_fine actors views marks a [] e = refl
 queues_fine actors views marks a (q ∷ qs) e =
-    and_both (queue_fine actors views a q) (all_fine actors views (suc a) qs)
-    (queue_met_fine actors views marks a q (and_left (queue_met actors views marks a q) (all_queues_met actors views (queue_marks marks q) (suc a) qs) e))
-    (queues_fine actors views (queue_marks marks q) (suc a) qs (and_right (queue_met actors views marks a q) (all_queues_met actors views (queue_marks marks q) (suc a) qs) e))
+    and_from (queue_fine actors views a q) (all_fine actors views (a + 1) qs)
+    (queue_met_fine actors views marks a q (and_parts (queue_met actors views marks a q) (all_queues_met actors views (queue_marks marks q) (a + 1) qs) e).0)
+    (queues_fine actors views (queue_marks marks q) (a + 1) qs (and_parts (queue_met actors views marks a q) (all_queues_met actors views (queue_marks marks q) (a + 1) qs) e).1)
 
 queues_met_holds : (actors : ℕ) (views : List View) (marks a : ℕ) (qs : List Queue) → all_fine actors views a qs ≡ true → ((w : ℕ) → one (bit marks w) + times_in w qs ≤ 1) → all_queues_met actors views marks a qs ≡ true
 unfolding all_met all_from times_in queue_marks
 queues_met_holds actors views marks a [] e few = refl
 queues_met_holds actors views marks a (q ∷ qs) e few =
-    let fine = and_left (queue_fine actors views a q) (all_fine actors views (suc a) qs) e in
+    let fine = (and_parts (queue_fine actors views a q) (all_fine actors views (a + 1) qs) e).0 in
     let first = queue_fine_met actors views marks a q fine (λ w. let k = few w in omega arith) in
-    and_both (queue_met actors views marks a q) (all_queues_met actors views (queue_marks marks q) (suc a) qs) first
-    (queues_met_holds actors views (queue_marks marks q) (suc a) qs (and_right (queue_fine actors views a q) (all_fine actors views (suc a) qs) e)
+    and_from (queue_met actors views marks a q) (all_queues_met actors views (queue_marks marks q) (a + 1) qs) first
+    (queues_met_holds actors views (queue_marks marks q) (a + 1) qs (and_parts (queue_fine actors views a q) (all_fine actors views (a + 1) qs) e).1
     (λ w. let k = met_bits views a marks 0 (standing q) (queue_met_places actors views marks a q first) w in let n = few w in omega arith))
 
 -- a view stands in its own actor's queue only, and nowhere unless it waits
@@ -202,8 +202,8 @@ away : (views : List View) (a i v : ℕ) (l : List ℕ) → waiting views a i l 
 unfolding all_from times
 away views a i v [] e none = refl
 away views a i v (x ∷ l) e none =
-    let r = away views a (suc i) v l (and_right (stands views a i x) (waiting views a (suc i) l) e) none in
-    let k = one_none (eqb x v) (by_test (eqb x v) (λ f. not_both (stands views a i x) (and_left (stands views a i x) (waiting views a (suc i) l) e) (ap (stands views a i) (eqb-true x v f) ∙ none i)) (λ f. f)) in
+    let r = away views a (i + 1) v l (and_parts (stands views a i x) (waiting views a (i + 1) l) e).1 none in
+    let k = one_none (eqb x v) (by_test (eqb x v) (λ f. not_both (stands views a i x) (and_parts (stands views a i x) (waiting views a (i + 1) l) e).0 (ap (stands views a i) (eqb-true x v f) ∙ none i)) (λ f. f)) in
     omega arith
 
 abbrev actor_of : List View → ℕ → ℕ
@@ -213,25 +213,25 @@ other_actor : (views : List View) (a v : ℕ) → actor_of views v ≢ a → (j 
 other_actor views a v h j = ap (λ (t : Bool). t && waits (get_or views v no_view).phase && (eqb j 0 || eqb (get_or views v no_view).phase 1)) (ne_eqb (actor_of views v) a h)
 
 not_waiting : (views : List View) (a v : ℕ) → waits (get_or views v no_view).phase ≡ false → (j : ℕ) → stands views a j v ≡ false
-not_waiting views a v h j = ap (λ (t : Bool). eqb (actor_of views v) a && t && (eqb j 0 || eqb (get_or views v no_view).phase 1)) h ∙ simp and_false
+not_waiting views a v h j = ap (λ (t : Bool). eqb (actor_of views v) a && t && (eqb j 0 || eqb (get_or views v no_view).phase 1)) h ∙ simp and-false
 
 stands_nowhere : (actors : ℕ) (views : List View) (a v : ℕ) (qs : List Queue) → all_fine actors views a qs ≡ true → ((b j : ℕ) → a ≤ b → stands views b j v ≡ false) → times_in v qs ≡ 0
 unfolding all_from times_in
 stands_nowhere actors views a v [] e none = refl
 stands_nowhere actors views a v (q ∷ qs) e none =
-    let k = away views a 0 v (standing q) (queue_fine_waiting actors views a q (and_left (queue_fine actors views a q) (all_fine actors views (suc a) qs) e)) (λ j. none a j (omega arith)) in
-    let r = stands_nowhere actors views (suc a) v qs (and_right (queue_fine actors views a q) (all_fine actors views (suc a) qs) e) (λ b j h. none b j (omega arith)) in
+    let k = away views a 0 v (standing q) (queue_fine_waiting actors views a q (and_parts (queue_fine actors views a q) (all_fine actors views (a + 1) qs) e).0) (λ j. none a j (omega arith)) in
+    let r = stands_nowhere actors views (a + 1) v qs (and_parts (queue_fine actors views a q) (all_fine actors views (a + 1) qs) e).1 (λ b j h. none b j (omega arith)) in
     omega arith
 
 own_queue : (actors : ℕ) (views : List View) (a v k : ℕ) (qs : List Queue) → all_fine actors views a qs ≡ true → actor_of views v ≡ a + k → times_in v qs ≡ times v (standing (get_or qs k no_queue))
 unfolding all_from times_in times
 own_queue actors views a v k [] e h = refl
 own_queue actors views a v zero (q ∷ qs) e h =
-    let r = stands_nowhere actors views (suc a) v qs (and_right (queue_fine actors views a q) (all_fine actors views (suc a) qs) e) (λ b j l. other_actor views b v (omega arith) j) in
+    let r = stands_nowhere actors views (a + 1) v qs (and_parts (queue_fine actors views a q) (all_fine actors views (a + 1) qs) e).1 (λ b j l. other_actor views b v (omega arith) j) in
     omega arith
 own_queue actors views a v (suc k) (q ∷ qs) e h =
-    let z = away views a 0 v (standing q) (queue_fine_waiting actors views a q (and_left (queue_fine actors views a q) (all_fine actors views (suc a) qs) e)) (other_actor views a v (omega arith)) in
-    let r = own_queue actors views (suc a) v k qs (and_right (queue_fine actors views a q) (all_fine actors views (suc a) qs) e) (omega arith) in
+    let z = away views a 0 v (standing q) (queue_fine_waiting actors views a q (and_parts (queue_fine actors views a q) (all_fine actors views (a + 1) qs) e).0) (other_actor views a v (omega arith)) in
+    let r = own_queue actors views (a + 1) v k qs (and_parts (queue_fine actors views a q) (all_fine actors views (a + 1) qs) e).1 (omega arith) in
     omega arith
 
 -- .. so that a bit of the marks says whether its view stands once in its own actor's queue
@@ -253,7 +253,7 @@ once actors views queues e f v =
     standing_once : Dec (v < length views) → waits (get_or views v no_view).phase ≡ true → times_in v queues ≤ 1
     standing_once (yes q) h =
         let o = own_queue actors views 0 v (actor_of views v) queues e (omega arith) in
-        let n = eqb-true (own_times views queues v) 1 (or_else (not (waits (get_or views v no_view).phase)) (eqb (own_times views queues v) 1) (f v q) (not_back (waits (get_or views v no_view).phase) h)) in
+        let n = eqb-true (own_times views queues v) 1 (or_else (not (waits (get_or views v no_view).phase)) (eqb (own_times views queues v) 1) (f v q) (not_from_true (waits (get_or views v no_view).phase) h)) in
         omega arith
     standing_once (no q) h = absurd (false≢true (sym (ap (λ (w : View). waits w.phase) (get_or-eq_default views no_view {n = v} (omega arith))) ∙ h))
 
@@ -275,37 +275,30 @@ marked_same part strict actors views queues =
 
     whole : (all queued views && all (queue_fine actors views) queues) ≡ true → queues_met actors views queues ≡ true
     whole f =
-        let fine = and_right (all queued views) (all (queue_fine actors views) queues) f in
+        let fine = (and_parts (all queued views) (all (queue_fine actors views) queues) f).1 in
         queues_met_holds actors views 0 0 queues fine (λ w.
         let z = one_none (bit 0 w) (bit_none w) in
         let n = once actors views queues fine (λ v h. by_test (queued_once queues v (get_or views v no_view)) (λ g. g)
-        (λ g. not_both (queued v (get_or views v no_view)) (all_at queued views no_view (and_left (all queued views) (all (queue_fine actors views) queues) f) v h)
+        (λ g. not_both (queued v (get_or views v no_view)) (all_at queued views no_view (and_parts (all queued views) (all (queue_fine actors views) queues) f).0 v h)
         (ap (λ (t : Bool). part t v (get_or views v no_view)) g ∙ strict v (get_or views v no_view)))) w in
         omega arith)
 
--- .. and with the other clauses of a view, as the code joins them: the marks are those of the queues where these are fine
-pub jobs_marked : (stores actors made : ℕ) (views : List View) (queues : List Queue) (fine : Bool) (marks : ℕ) → fine ≡ queues_met actors views queues → (fine ≡ true → marks ≡ marks_of queues)
-    → (fine && all (view_met stores actors made views marks) views) ≡ (all (view_fine stores actors made views queues) views && all (queue_fine actors views) queues)
+-- .. and with the other clauses of a view
+pub jobs_marked : (stores actors made : ℕ) (views : List View) (queues : List Queue)
+    → (queues_met actors views queues && all (view_met stores actors made views (marks_of queues)) views) ≡ (all (view_fine stores actors made views queues) views && all (queue_fine actors views) queues)
 unfolding view_met view_fine
-jobs_marked stores actors made views queues fine marks e h =
-    by_test fine
-    (λ f. ap₂ (λ b n. b && all (view_met stores actors made views n) views) e (h f) ∙ law)
-    (λ f. ap (λ (b : Bool). b && all (view_met stores actors made views marks) views) f ∙ sym (sym law ∙ ap (λ (b : Bool). b && all (view_met stores actors made views (marks_of queues)) views) (sym e ∙ f)))
-  where
-    law : (queues_met actors views queues && all (view_met stores actors made views (marks_of queues)) views) ≡ (all (view_fine stores actors made views queues) views && all (queue_fine actors views) queues)
-    law =
-        marked_same (λ t v w. links_fine stores (v / 2) w.causes w.links && phase_fine stores w && made_view actors made (get_or views (v - 1) no_view).actor v w && t)
-        (λ v w. and_false (links_fine stores (v / 2) w.causes w.links && phase_fine stores w && made_view actors made (get_or views (v - 1) no_view).actor v w)) actors views queues
+jobs_marked stores actors made views queues =
+    marked_same (λ t v w. links_fine stores (v / 2) w.causes w.links && phase_fine stores w && made_view actors made (get_or views (v - 1) no_view).actor v w && t)
+    (λ v w. and-false (links_fine stores (v / 2) w.causes w.links && phase_fine stores w && made_view actors made (get_or views (v - 1) no_view).actor v w)) actors views queues
 
--- the test of a queue as the code joins it: ok is all but the places that stand
-queue_joined : (actors : ℕ) (views : List View) (marks a : ℕ) (q : Queue) (ok : Bool) → length q.views ≡ 16 → ok ≡ (leb q.len 16 && blank_behind actors a q)
-    → (ok && met views a marks 0 (standing q)) ≡ queue_met actors views marks a q
-unfolding queue_met
-queue_joined actors views marks a q ok long e =
-    ap (λ (b : Bool). b && met views a marks 0 (standing q)) e ∙ sym (ap (λ (t : Bool). t && leb q.len 16 && blank_behind actors a q && met views a marks 0 (standing q)) (eq-eqb (length q.views) 16 long))
+-- .. as the code asks: the queues first, and the views by their marks
+pub jobs_met : (stores actors made : ℕ) (views : List View) (queues : List Queue) {marks : ℕ} → queues_met actors views queues ≡ true → marks ≡ marks_of queues
+    → all (view_met stores actors made views marks) views ≡ (all (view_fine stores actors made views queues) views && all (queue_fine actors views) queues)
+jobs_met stores actors made views queues e h =
+    ap (λ n. all (view_met stores actors made views n) views) h
+    ∙ (sym (ap (λ b. b && all (view_met stores actors made views (marks_of queues)) views) e) ∙ jobs_marked stores actors made views queues)
 
-pub queue_stop : (actors : ℕ) (views : List View) (marks a : ℕ) (q : Queue) {ok : Bool} → length q.views ≡ 16 → ok ≡ (leb q.len 16 && blank_behind actors a q) → ok ≡ false → false ≡ queue_met actors views marks a q
-queue_stop actors views marks a q {ok} long e f = sym (ap (λ (b : Bool). b && met views a marks 0 (standing q)) f) ∙ queue_joined actors views marks a q ok long e
-
-pub queue_goes : (actors : ℕ) (views : List View) (marks a : ℕ) (q : Queue) {ok r : Bool} → length q.views ≡ 16 → ok ≡ (leb q.len 16 && blank_behind actors a q) → ok ≡ true → r ≡ met views a marks 0 (standing q) → r ≡ queue_met actors views marks a q
-queue_goes actors views marks a q {ok} long e f h = h ∙ (sym (ap (λ (b : Bool). b && met views a marks 0 (standing q)) f) ∙ queue_joined actors views marks a q ok long e)
+pub jobs_unmet : (stores actors made : ℕ) (views : List View) (queues : List Queue) → queues_met actors views queues ≡ false
+    → (all (view_fine stores actors made views queues) views && all (queue_fine actors views) queues) ≡ false
+jobs_unmet stores actors made views queues e =
+    sym (jobs_marked stores actors made views queues) ∙ ap (λ b. b && all (view_met stores actors made views (marks_of queues)) views) e

@@ -21,11 +21,11 @@ meet_start d p next l before n e = record { low = omega arith; long = e; fine = 
 
 -- the test of the rest is the test of its first element and of what follows
 first : {A : Type 0} {d : A} {p : ℕ → ℕ → A → Bool} {next : ℕ → A → ℕ} {l : List A} {before n i marks : ℕ} → Meeting d p next l before n i marks → i < n → (t : Bool) → p marks i (get_or l i d) ≡ t
-    → (t && all_met p next (next marks (get_or l i d)) (suc i) (drop (suc i) l)) ≡ all_met p next before 0 l
+    → (t && all_met p next (next marks (get_or l i d)) (i + 1) (drop (suc i) l)) ≡ all_met p next before 0 l
 unfolding all_met
 first {A} {d} {p} {next} {l} {before} {n} {i} {marks} h b t e =
     let j : i < length l = omega (arith, h.long) in
-    sym (ap (all_met p next marks i) (drop-cons l i d j) ∙ ap (λ (t : Bool). t && all_met p next (next marks (get_or l i d)) (suc i) (drop (suc i) l)) e) ∙ h.fine
+    sym (ap (all_met p next marks i) (drop-cons l i d j) ∙ ap (λ (t : Bool). t && all_met p next (next marks (get_or l i d)) (i + 1) (drop (suc i) l)) e) ∙ h.fine
 
 pub meet_step : {A : Type 0} {d : A} {p : ℕ → ℕ → A → Bool} {next : ℕ → A → ℕ} {l : List A} {before n i marks more : ℕ} → Meeting d p next l before n i marks → i < n → p marks i (get_or l i d) ≡ true → more ≡ next marks (get_or l i d)
     → Meeting d p next l before n (i + 1) more
@@ -35,7 +35,7 @@ meet_step {A} {d} {p} {next} {l} {before} {n} {i} {marks} h b e f =
     record {
       low = omega arith;
       long = h.long;
-      fine = rw (add-one, f) (first h b true e);
+      fine = rw (add-one, f) (rw add-one at (first h b true e));
       after = rw (add-one, f) (sym (ap (marks_after next marks) (drop-cons l i d j)) ∙ h.after);
     }
 

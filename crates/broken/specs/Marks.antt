@@ -1,6 +1,6 @@
 -- The marked form of the queues' clauses, which the code computes: the queues are gone over once, and the views met are marked in one
 -- word, a bit each. No reader has to believe it: `marked_same` says that it is what `queued_once` and `queue_fine` say.
-use Rattle.std.specs.Prelude.{ℕ, suc, ◌-◌, ◌/◌, Bool, true, ◌&&◌, ◌||◌, not, List, [], ◌∷◌, ltb, leb, eqb, length, get_or}
+use Rattle.std.specs.Prelude.{◌+◌, ℕ, ◌-◌, ◌/◌, Bool, true, ◌&&◌, ◌||◌, not, List, [], ◌∷◌, ltb, leb, eqb, length, get_or}
 use Rattle.protocol.specs.Words.{bit, joined, all}
 use Rattle.protocol.specs.Slots.{no_view, standing}
 use Rattle.protocol.specs.Broken.{links_fine, phase_fine, made_view, waits, waits_at}
@@ -10,7 +10,7 @@ use Rattle.protocol.specs.declared.Queue.{Queue}
 -- p holds of i and the first element of l with the marks, of i + 1 and the second with the marks after the first, and so on
 unfoldable pub all_met : {A : Type 0} → (ℕ → ℕ → A → Bool) → (ℕ → A → ℕ) → ℕ → ℕ → List A → Bool
 all_met p next marks i [] = true
-all_met p next marks i (x ∷ xs) = p marks i x && all_met p next (next marks x) (suc i) xs
+all_met p next marks i (x ∷ xs) = p marks i x && all_met p next (next marks x) (i + 1) xs
 
 -- the marks after l
 unfoldable pub marks_after : {A : Type 0} → (ℕ → A → ℕ) → ℕ → List A → ℕ

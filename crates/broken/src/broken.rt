@@ -1,102 +1,70 @@
-// The test for a broken value: every clause of document 01's list, by the parts of the machine.
+// The test for a broken value: every clause of the list, by the parts of the machine.
+ghost use Rattle.std.specs.Prelude.{◌≡◌, length};
+ghost use Rattle.protocol.specs.Broken.{broken_of, jobs_fine, places_fine, setup_fine, whole_of};
 
-ghost use Rattle.std.specs.Prelude.{◌&&◌, ◌≡◌};
-ghost use Rattle.protocol.specs.Broken.{setup_fine, jobs_fine, places_fine, whole_of, broken_of};
+use crate::fresh::legal;
+use crate::{flight, held, queues, views};
+use protocol::{Setup, State};
 
-use super::fresh::legal;
-use super::{flight, held, queues, sets, views};
-use protocol::State;
-
-// A clause and a clause.
-pub(crate) fn both(a: bool, b: bool) -> bool
-    ensures { result ≡ (a && b) }
-{
-    if a {
-        return b;
-    }
-    false
-}
-
-// Legal, or the empty machine's.
+/// Legal, or the empty machine's.
 #[tactic(auto, unfolding(protocol::specs::Broken::setup_fine))]
-fn setup_fine(stores: u8, actors: u8, homes: [u8; 8], lists: [u8; 8]) -> bool
-    ensures { result ≡ setup_fine stores actors homes lists }
+fn setup_fine(m: &State) -> bool
+    ensures { result ≡ setup_fine m.now.stores m.now.actors m.now.homes m.now.lists }
 {
-    let none = both(stores == 0, actors == 0);
-    if none {
-        return true;
-    }
-    legal(stores, actors, homes, lists)
+    let setup = Setup {
+        stores: m.stores,
+        actors: m.actors,
+        homes: m.homes,
+        lists: m.lists,
+    };
+    (m.stores == 0 && m.actors == 0) || legal(&setup)
 }
 
-// The views with their queues, messages, repairs and entries.
-#[tactic(auto, unfolding(protocol::specs::Broken::jobs_fine), using(crate::proofs::Marked::jobs_marked))]
-fn jobs_fine(m: State) -> bool
-    ensures { result ≡ jobs_fine m }
+/// The views with their queues, messages, repairs and entries.
+#[tactic(auto, unfolding(protocol::specs::Broken::jobs_fine), using(crate::proofs::Marked::jobs_met, crate::proofs::Marked::jobs_unmet))]
+fn jobs_fine(m: &State) -> bool
+    ensures fine { result ≡ jobs_fine m.now }
+    ensures slots { (length m.now.views ≡ 32) × (length m.now.queues ≡ 8) × (length m.now.messages ≡ 16) × (length m.now.repairs ≡ 32) × (length m.now.entries ≡ 32) }
 {
-    let vs = m.views;
-    let queues = m.queues;
-    let messages = m.messages;
-    let repairs = m.repairs;
-    let entries = m.entries;
-    let met = queues::queues_met(m.actors, vs, queues);
-    let queued = both(
-        met.fine,
-        views::views_met(m.stores, m.actors, m.made, vs, met.marks),
-    );
-    let sent = both(
-        queued,
-        flight::messages_fine(m.stores, m.made, vs, messages),
-    );
-    let repaired = both(sent, flight::repairs_fine(m.stores, vs, repairs));
-    both(repaired, flight::entries_fine(m.stores, vs, entries))
+    let met = queues::queues_met(m);
+    // Where a queue is broken the marks don't count.
+    let views = views::views_met(m, met.unwrap_or(0));
+    met.is_some()
+        & views
+        & flight::messages_fine(m)
+        & flight::repairs_fine(m)
+        & flight::entries_fine(m)
 }
 
-// Every place of a store: copies in flight, and what it holds.
-#[tactic(auto, unfolding(protocol::specs::Broken::places_fine), using(crate::proofs::Members::beside, crate::proofs::Members::contents_same, crate::proofs::Members::links_same, crate::proofs::Rooms::four))]
-fn places_fine(m: State) -> bool
-    ensures { result ≡ places_fine m }
+/// Every place of a store: copies in flight, and what it holds.
+#[tactic(auto, unfolding(protocol::specs::Broken::places_fine))]
+fn places_fine(m: &State) -> bool
+    ensures fine { result ≡ places_fine m.now }
+    ensures slots { (length m.now.records ≡ 256) × (length m.now.acks ≡ 256) × (length m.now.updates ≡ 256) × (length m.now.uacks ≡ 256) × (length m.now.contents ≡ 256) × (length m.now.links ≡ 128) × (length m.now.shelves ≡ 8) }
 {
-    let vs = m.views;
-    let entries = m.entries;
-    let records = m.records;
-    let acks = m.acks;
-    let updates = m.updates;
-    let uacks = m.uacks;
-    let contents = m.contents;
-    let links = m.links;
-    let shelves = m.shelves;
-    let recorded = flight::records_fine(m.stores, vs, records, acks);
-    let updated = both(
-        recorded,
-        flight::updates_fine(m.stores, entries, updates, uacks),
-    );
-    let had = sets::had(shelves);
-    let filled = both(updated, held::all_contents_fine(vs, had, contents));
-    let linked = both(filled, held::held_links_fine(had, vs, links));
-    both(
-        linked,
-        held::stores_fine(m.stores, m.made, vs, entries, shelves),
-    )
+    flight::records_fine(m, &m.records)
+        & flight::records_fine(m, &m.acks)
+        & flight::updates_fine(m, &m.updates)
+        & flight::updates_fine(m, &m.uacks)
+        & held::contents_fine(m)
+        & held::links_fine(m)
+        & held::stores_fine(m)
 }
 
-fn whole(m: State) -> bool
-    ensures { result ≡ whole_of m }
+#[tactic(auto, unfolding(protocol::specs::Broken::whole_of, protocol::specs::Broken::slots_fine))]
+fn is_whole(m: &State) -> bool
+    ensures { result ≡ whole_of m.now }
 {
-    let homes = m.homes;
-    let lists = m.lists;
-    let begun = both(m.made <= 16, setup_fine(m.stores, m.actors, homes, lists));
-    let rows = both(
-        both(begun, queues::rows_fine(m.actors, homes)),
-        queues::rows_fine(m.actors, lists),
-    );
-    both(both(rows, jobs_fine(m)), places_fine(m))
+    let rows = queues::rows_fine(m.actors, &m.homes) & queues::rows_fine(m.actors, &m.lists);
+    let jobs = jobs_fine(m);
+    let places = places_fine(m);
+    m.made <= 16 && setup_fine(m) && rows && jobs && places
 }
 
-// True exactly where a clause says so, for every value.
-pub fn is_broken(m: State) -> bool
-    ensures { result ≡ broken_of m }
+/// True exactly where a clause says so, for every value.
+#[tactic(auto, unfolding(protocol::specs::Broken::broken_of))]
+pub fn is_broken(m: &State) -> bool
+    ensures { result ≡ broken_of m.now }
 {
-    let whole = whole(m);
-    !whole
+    !is_whole(m)
 }

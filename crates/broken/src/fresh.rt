@@ -1,14 +1,13 @@
 // The setup: which are illegal, the machine of a legal one, and the empty machine.
-
-ghost use Rattle.std.specs.Prelude.{◌≡◌, ◌||◌, ◌≤◌, leb, ltb};
-ghost use Rattle.protocol.specs.Words.{pick, table};
-ghost use Rattle.protocol.specs.Slots.{no_message, no_repair, no_entry, no_contents};
+ghost use Rattle.std.specs.Prelude.{◌≡◌, ◌≤◌, ltb};
+ghost use Rattle.protocol.specs.Setup.{empty_machine, fresh_with, legal, legal_actor, legal_actors, of_actors, stores_in};
 ghost use Rattle.protocol.specs.Stores.{fresh_store};
-ghost use Rattle.protocol.specs.Setup.{stores_in, legal_actor, legal_actors, legal, blank_queue, of_actors, fresh_with, empty_machine};
+ghost use Rattle.protocol.specs.Words.{table};
 
-use protocol::{Contents, Entry, Links, Message, Queue, Repair, State, Status, Store, unset_view};
+use protocol::sets::is_in;
+use protocol::{Contents, Entry, Links, Message, Queue, Repair, Setup, State, Status, Store, View};
 
-// How many stores a list has.
+/// How many stores a list has.
 fn stores_in(list: u8) -> u8
     ensures { result ≡ stores_in list }
 {
@@ -22,99 +21,56 @@ fn stores_in(list: u8) -> u8
         + list / 128 % 2
 }
 
-#[tactic(auto, unfolding(protocol::specs::Setup::legal_actor), using(unbroken::proofs::Tests::tests))]
+/// A home and a list name stores, the home is in the list, and the list has two stores or more.
+#[tactic(auto, unfolding(protocol::specs::Setup::legal_actor))]
 fn legal_actor(stores: u8, home: u8, list: u8) -> bool
     requires { stores ≤ 8 }
     ensures { result ≡ legal_actor stores home list }
 {
-    if stores <= home {
-        return false;
-    }
-    // Two bytes wide, since with eight stores nothing is left of a byte.
-    if (list as u16) >> stores != 0 {
-        return false;
-    }
-    if (list >> home) % 2 != 1 {
-        return false;
-    }
-    2 <= stores_in(list)
+    home < stores
+        // Two bytes wide, since with eight stores nothing is left of a byte.
+        && u16::from(list) >> stores == 0
+        && is_in(u32::from(list), home as usize)
+        && 2 <= stores_in(list)
 }
 
-// Rows behind the last actor are not looked at.
-fn legal_row(stores: u8, actors: u8, a: usize, home: u8, list: u8) -> bool
-    requires { stores ≤ 8 }
-    ensures { result ≡ (leb actors a || legal_actor stores home list) }
+/// Rows behind the last actor are not looked at.
+#[tactic(auto, unfolding(protocol::specs::Setup::legal_actors, protocol::specs::Words::all_from))]
+fn legal_actors(u: &Setup) -> bool
+    requires { u.now.stores ≤ 8 }
+    ensures { result ≡ legal_actors u.now.stores u.now.actors u.now.homes u.now.lists }
 {
-    if actors as usize <= a {
-        return true;
-    }
-    legal_actor(stores, home, list)
+    u.homes.iter().enumerate().all(|(a, &home)| {
+        u.actors as usize <= a || legal_actor(u.stores, home, u.lists[a])
+    })
 }
 
-#[tactic(auto, unfolding(protocol::specs::Setup::legal_actors), using(unbroken::proofs::Pass::pass_end, unbroken::proofs::Pass::pass_start, unbroken::proofs::Pass::pass_step, unbroken::proofs::Pass::pass_stop))]
-fn legal_actors(stores: u8, actors: u8, homes: [u8; 8], lists: [u8; 8]) -> bool
-    requires { stores ≤ 8 }
-    ensures { result ≡ legal_actors stores actors homes lists }
+/// Stores and actors are 2 to 8, and each actor's home and list are legal.
+#[tactic(auto, unfolding(protocol::specs::Setup::legal))]
+pub fn legal(u: &Setup) -> bool
+    ensures { result ≡ legal u.now.stores u.now.actors u.now.homes u.now.lists }
 {
-    let mut i: usize = 0;
-    while i < 8 {
-        let fine = legal_row(stores, actors, i, homes[i], lists[i]);
-        if !fine {
-            return false;
-        }
-        i += 1;
-    }
-    true
+    2 <= u.stores && u.stores <= 8 && 2 <= u.actors && u.actors <= 8 && legal_actors(u)
 }
 
-#[tactic(auto, unfolding(protocol::specs::Setup::legal), using(unbroken::proofs::Tests::tests))]
-pub fn legal(stores: u8, actors: u8, homes: [u8; 8], lists: [u8; 8]) -> bool
-    ensures { result ≡ legal stores actors homes lists }
-{
-    if stores < 2 {
-        return false;
-    }
-    if 8 < stores {
-        return false;
-    }
-    if actors < 2 {
-        return false;
-    }
-    if 8 < actors {
-        return false;
-    }
-    legal_actors(stores, actors, homes, lists)
-}
-
-// A row of an actor, blank behind the last.
-fn row(actors: u8, a: usize, x: u8) -> u8
-    ensures { result ≡ pick (ltb a actors) x 0 }
-{
-    if a < actors as usize {
-        return x;
-    }
-    0
-}
-
+/// What the rows of the actors say, blank behind the last.
 #[tactic(auto, using(unbroken::proofs::Fill::fill_end, unbroken::proofs::Fill::fill_start, unbroken::proofs::Fill::fill_step))]
-fn rows(actors: u8, l: [u8; 8]) -> [u8; 8]
-    ensures { result ≡ table (of_actors actors l) 8 }
+fn rows(actors: u8, l: &[u8; 8]) -> [u8; 8]
+    ensures { result ≡ table (of_actors actors l.now) 8 }
 {
-    let mut kept = [0u8; 8];
-    let mut i: usize = 0;
-    while i < 8 {
-        kept[i] = row(actors, i, l[i]);
-        i += 1;
+    let mut kept = [0; 8];
+    for a in 0..8 {
+        kept[a] = if a < actors as usize { l[a] } else { 0 };
     }
     kept
 }
 
-// Nothing held, nothing owed.
+/// Nothing held, nothing owed.
 fn fresh_store(up: bool) -> Store
     ensures { result ≡ fresh_store up }
 {
     Store {
-        up: up,
+        up,
         held: 0,
         kept: 0,
         acksowed: 0,
@@ -124,92 +80,57 @@ fn fresh_store(up: bool) -> Store
     }
 }
 
+/// The stores that are there are up.
 #[tactic(auto, using(unbroken::proofs::Fill::fill_end, unbroken::proofs::Fill::fill_start, unbroken::proofs::Fill::fill_step))]
 fn fresh_stores(stores: u8) -> [Store; 8]
     ensures { result ≡ table (λ p. fresh_store (ltb p stores)) 8 }
 {
-    let down = fresh_store(false);
-    let mut shelves = [down; 8];
-    let mut p: usize = 0;
-    while p < 8 {
-        let s = fresh_store(p < stores as usize);
-        shelves[p] = s;
-        p += 1;
+    let mut shelves = [fresh_store(false); 8];
+    for p in 0..8 {
+        shelves[p] = fresh_store(p < stores as usize);
     }
     shelves
 }
 
-// A blank of each kind of slot.
-fn blank_queue() -> Queue
-    ensures { result ≡ blank_queue }
+/// The machine of a setup: nothing made, nothing in flight, nothing held, all stores up. Rows behind the last actor are blank.
+#[tactic(auto, unfolding(protocol::specs::Setup::fresh_with))]
+pub fn fresh(u: &Setup) -> State
+    ensures { result ≡ fresh_with u.now.stores u.now.actors u.now.homes u.now.lists }
 {
-    Queue {
+    let queue = Queue {
         len: 0,
         views: [0; 16],
-    }
-}
-
-fn no_message() -> Message
-    ensures { result ≡ no_message }
-{
-    Message {
+    };
+    let message = Message {
         flying: false,
         own: 0,
         word: 0,
-    }
-}
-
-fn no_repair() -> Repair
-    ensures { result ≡ no_repair }
-{
-    Repair {
+    };
+    let repair = Repair {
         flying: false,
         destination: 0,
         own: 0,
-    }
-}
-
-fn no_entry() -> Entry
-    ensures { result ≡ no_entry }
-{
-    Entry {
+    };
+    let entry = Entry {
         status: Status::Nothing,
         destination: 0,
         own: 0,
-    }
-}
-
-fn no_contents() -> Contents
-    ensures { result ≡ no_contents }
-{
-    Contents {
+    };
+    let contents = Contents {
         asserter: 0,
         causes: 0,
         word: 0,
-    }
-}
-
-#[tactic(auto, unfolding(protocol::specs::Setup::fresh_with))]
-pub fn fresh(stores: u8, actors: u8, homes: [u8; 8], lists: [u8; 8]) -> State
-    ensures { result ≡ fresh_with stores actors homes lists }
-{
-    let queue = blank_queue();
-    let message = no_message();
-    let view = unset_view(0);
-    let repair = no_repair();
-    let entry = no_entry();
-    let contents = no_contents();
-    let links = Links { to: [0; 16] };
+    };
     State {
-        stores: stores,
-        actors: actors,
+        stores: u.stores,
+        actors: u.actors,
         made: 0,
-        homes: rows(actors, homes),
-        lists: rows(actors, lists),
+        homes: rows(u.actors, &u.homes),
+        lists: rows(u.actors, &u.lists),
         queues: [queue; 8],
-        shelves: fresh_stores(stores),
+        shelves: fresh_stores(u.stores),
         messages: [message; 16],
-        views: [view; 32],
+        views: [View::unset(0); 32],
         repairs: [repair; 32],
         entries: [entry; 32],
         records: [0; 256],
@@ -217,14 +138,19 @@ pub fn fresh(stores: u8, actors: u8, homes: [u8; 8], lists: [u8; 8]) -> State
         updates: [0; 256],
         uacks: [0; 256],
         contents: [contents; 256],
-        links: [links; 128],
+        links: [Links { to: [0; 16] }; 128],
     }
 }
 
-// No stores, actors or interactions.
+/// No stores, actors or interactions.
 #[tactic(auto, unfolding(protocol::specs::Setup::empty_machine))]
 pub fn empty() -> State
     ensures { result ≡ empty_machine }
 {
-    fresh(0, 0, [0; 8], [0; 8])
+    fresh(&Setup {
+        stores: 0,
+        actors: 0,
+        homes: [0; 8],
+        lists: [0; 8],
+    })
 }

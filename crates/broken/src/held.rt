@@ -1,229 +1,148 @@
 // The stores that are not broken and what they hold: contents, their cause links, notes and viewlinks.
+ghost use Rattle.std.specs.Prelude.{◌≡◌, ◌<◌, ◌||◌, eqb, get_or, leb, ltb, length};
+ghost use Rattle.std.specs.List.{list_all, range_with_len};
+ghost use Rattle.protocol.specs.Broken.{blank_contents, blank_store, contents_fine, held_links_fine, same_contents, note_fine, same_links, store_fine, viewlink_fine};
+ghost use Rattle.protocol.specs.Slots.{no_entry, no_view, status_number};
+ghost use Rattle.protocol.specs.Words.{all};
 
-ghost use Rattle.std.specs.Prelude.{◌≡◌, ◌&&◌, ◌||◌, ◌*◌, eqb, leb, ltb, get_or, replicate};
-ghost use Rattle.protocol.specs.Words.{pick, all, all_below, table};
-ghost use Rattle.protocol.specs.Broken.{blank_contents, same_links, blank_store, store_fine};
-ghost use Rattle.broken.specs.Packed.{packed, due, recorded};
-ghost use Rattle.broken.specs.Rooms.{link_room, rows_within, store_within};
-ghost use Rattle.broken.specs.Sets.{contents_in, links_due, links_in};
+use crate::flight::has_entry;
+use protocol::sets::is_in;
+use protocol::{Contents, Links, State, Store, View};
 
-use super::broken::both;
-use super::sets::{entered, is_in, notes_fine, ready};
-use protocol::{Contents, Entry, Links, Store, View};
-
-// The fields of contents in one number, which is compared at once.
-fn packed(asserter: u8, causes: u16, word: u32) -> u64
-    ensures { result ≡ packed asserter causes word }
+/// Contents that are there are those of the view's record, which has left phase 1.
+fn same_contents(stores: u8, w: &View, at: usize, c: &Contents) -> bool
+    ensures { result ≡ same_contents stores w.now at c.now }
 {
-    (asserter as u64) + (causes as u64) * 65536 + (word as u64) * 4294967296
+    at / 32 < stores as usize
+        && 2 <= w.phase
+        && c.asserter == w.actor
+        && c.causes == w.causes
+        && c.word == w.word
 }
 
-// The number that a store must have of a view: 0 where it has no contents, and one that no contents have where it may have none.
-fn due(has: bool, w: View) -> u64
-    ensures { result ≡ due has w }
+fn blank_contents(c: &Contents) -> bool
+    ensures { result ≡ blank_contents c.now }
 {
-    if !has {
-        return 0;
+    c.asserter == 0 && c.causes == 0 && c.word == 0
+}
+
+#[tactic(auto, unfolding(protocol::specs::Broken::contents_fine))]
+fn place_fine(m: &State, at: usize, c: &Contents) -> bool
+    requires { at < 256 }
+    ensures { result ≡ contents_fine m.now.stores m.now.views m.now.shelves at c.now }
+{
+    if m.shelves[at / 32].has_contents(at % 32) {
+        same_contents(m.stores, &m.views[at % 32], at, c)
+    } else {
+        blank_contents(c)
     }
-    if w.phase < 2 {
-        return 256;
+}
+
+#[tactic(auto, unfolding(protocol::specs::Words::all_from))]
+pub(crate) fn contents_fine(m: &State) -> bool
+    ensures each { result ≡ all (contents_fine m.now.stores m.now.views m.now.shelves) m.now.contents }
+    ensures long { length m.now.contents ≡ 256 }
+{
+    m.contents
+        .iter()
+        .enumerate()
+        .all(|(at, c)| place_fine(m, at, c))
+}
+
+fn same_links(a: &[u8; 16], b: &[u8; 16]) -> bool
+    ensures { result ≡ same_links a.now b.now }
+{
+    a == b
+}
+
+pub(crate) fn blank_links(links: &[u8; 16]) -> bool
+    ensures blank { result ≡ all (λ j link. eqb link 0) links.now }
+    ensures long { length links.now ≡ 16 }
+{
+    *links == [0; 16]
+}
+
+/// The cause links of a sender's contents are its record's, and blank where no contents are.
+#[tactic(auto, unfolding(protocol::specs::Broken::held_links_fine))]
+fn sender_fine(m: &State, at: usize, l: &Links) -> bool
+    requires { at < 128 }
+    ensures { result ≡ held_links_fine m.now.shelves m.now.views at l.now }
+{
+    let v = at % 16 * 2;
+    if m.shelves[at / 16].has_contents(v) {
+        same_links(&l.to, &m.views[v].links)
+    } else {
+        blank_links(&l.to)
     }
-    packed(w.actor, w.causes, w.word)
 }
 
-fn contents_fine(has: bool, w: View, c: Contents) -> bool
-    ensures { result ≡ pick has (recorded w c) (blank_contents c) }
+#[tactic(auto, unfolding(protocol::specs::Words::all_from))]
+pub(crate) fn links_fine(m: &State) -> bool
+    ensures each { result ≡ all (held_links_fine m.now.shelves m.now.views) m.now.links }
+    ensures long { length m.now.links ≡ 128 }
 {
-    packed(c.asserter, c.causes, c.word) == due(has, w)
+    m.links
+        .iter()
+        .enumerate()
+        .all(|(at, l)| sender_fine(m, at, l))
 }
 
-// That a store which is not there has none is asked of the stores.
-#[tactic(auto, using(unbroken::proofs::Pass::pass_end, unbroken::proofs::Pass::pass_start, unbroken::proofs::Pass::pass_step, unbroken::proofs::Pass::pass_stop))]
-pub(crate) fn all_contents_fine(
-    views: [View; 32],
-    sets: [u32; 8],
-    contents: [Contents; 256],
-) -> bool
-    ensures { result ≡ all (contents_in sets views) contents }
+/// A viewlink is 0 for none, or a store's number and one; none is at a store that isn't there, or of a view that isn't made.
+#[tactic(auto, unfolding(protocol::specs::Words::all_from))]
+fn viewlinks_fine(m: &State, p: usize, links: &[u8; 32]) -> bool
+    ensures each { result ≡ all (viewlink_fine m.now.stores m.now.made p) links.now }
+    ensures long { length links.now ≡ 32 }
 {
-    let mut at: usize = 0;
-    while at < 256 {
-        let w = views[at % 32];
-        let c = contents[at];
-        let has = is_in(sets[at / 32], at % 32);
-        let fine = contents_fine(has, w, c);
-        if !fine {
-            return false;
-        }
-        at += 1;
-    }
-    true
+    links.iter().enumerate().all(|(v, &link)| {
+        link == 0 || link <= m.stores && p < m.stores as usize && v < m.made as usize * 2
+    })
 }
 
-// This loop and the next leave at no test, so that they run on all sixteen at once.
-#[tactic(auto, unfolding(protocol::specs::Broken::same_links), using(unbroken::proofs::Pass::tally_all, unbroken::proofs::Pass::tally_start, unbroken::proofs::Pass::tally_step))]
-fn same_links(a: [u8; 16], b: [u8; 16]) -> bool
-    ensures { result ≡ same_links a b }
+/// Not up, holding nothing and owing nothing.
+fn blank_store(s: &Store) -> bool
+    ensures { result ≡ blank_store s.now }
 {
-    let mut same = true;
-    let mut j: usize = 0;
-    while j < 16 {
-        same = both(same, a[j] == b[j]);
-        j += 1;
-    }
-    same
+    !s.up && s.held == 0 && s.kept == 0 && s.acksowed == 0 && s.uacksowed == 0
 }
 
-#[tactic(auto, using(unbroken::proofs::Pass::tally_all, unbroken::proofs::Pass::tally_start, unbroken::proofs::Pass::tally_step))]
-pub(crate) fn blank_links(links: [u8; 16]) -> bool
-    ensures { result ≡ all (λ j link. eqb link 0) links }
+/// A store behind the last holds and owes nothing.
+fn there_or_blank(stores: u8, p: usize, s: &Store) -> bool
+    ensures { result ≡ (ltb p stores || blank_store s.now) }
 {
-    let mut blank = true;
-    let mut j: usize = 0;
-    while j < 16 {
-        blank = both(blank, links[j] == 0);
-        j += 1;
-    }
-    blank
+    p < stores as usize || blank_store(s)
 }
 
-// The links of a sender's contents are its record's, and blank where no contents are.
-fn due_links(has: bool, w: View) -> [u8; 16]
-    ensures { result ≡ pick has w.links (replicate 16 0) }
+/// An ack is owed only of a view that may have one.
+fn acks_fine(m: &State, owed: u32) -> bool
+    ensures { result ≡ list_all (note_fine (λ v. leb 2 (get_or m.now.views v no_view).phase) owed) (range_with_len 0 32) }
 {
-    if has {
-        return w.links;
-    }
-    [0; 16]
+    owed == 0 || (0..32).all(|v| !is_in(owed, v) || 2 <= m.views[v].phase)
 }
 
-#[tactic(auto, using(crate::proofs::Members::due_same))]
-fn sender_links_fine(has: bool, l: Links, w: View) -> bool
-    ensures { result ≡ links_due has w.links l }
+/// So is a uack.
+fn uacks_fine(m: &State, owed: u32) -> bool
+    ensures { result ≡ list_all (note_fine (λ v. leb 1 (status_number (get_or m.now.entries v no_entry).status)) owed) (range_with_len 0 32) }
 {
-    let to = l.to;
-    let due = due_links(has, w);
-    same_links(to, due)
+    owed == 0 || (0..32).all(|v| !is_in(owed, v) || has_entry(&m.entries[v]))
 }
 
-#[tactic(auto, using(unbroken::proofs::Pass::pass_end, unbroken::proofs::Pass::pass_start, unbroken::proofs::Pass::pass_step, unbroken::proofs::Pass::pass_stop))]
-pub(crate) fn held_links_fine(sets: [u32; 8], views: [View; 32], links: [Links; 128]) -> bool
-    ensures { result ≡ all (links_in sets views) links }
+fn store_fine(m: &State, p: usize, s: &Store) -> bool
+    ensures { result ≡ store_fine m.now.stores m.now.made m.now.views m.now.entries p s.now }
 {
-    let mut at: usize = 0;
-    while at < 128 {
-        let w = views[at % 16 * 2];
-        let l = links[at];
-        let has = is_in(sets[at / 16], at % 16 * 2);
-        let fine = sender_links_fine(has, l, w);
-        if !fine {
-            return false;
-        }
-        at += 1;
-    }
-    true
+    there_or_blank(m.stores, p, s)
+        & acks_fine(m, s.acksowed)
+        & uacks_fine(m, s.uacksowed)
+        & viewlinks_fine(m, p, &s.viewlinks)
+        & viewlinks_fine(m, p, &s.keptlinks)
 }
 
-// The highest viewlink that a view may have: a store's number and one, and none behind the last view.
-fn linkable(stores: u8, made: u8, v: usize) -> u8
-    ensures { result ≡ pick (ltb v (made * 2)) stores 0 }
+#[tactic(auto, unfolding(protocol::specs::Words::all_from))]
+pub(crate) fn stores_fine(m: &State) -> bool
+    ensures each { result ≡ all (store_fine m.now.stores m.now.made m.now.views m.now.entries) m.now.shelves }
+    ensures long { length m.now.shelves ≡ 8 }
 {
-    if v < (made as usize) * 2 {
-        return stores;
-    }
-    0
-}
-
-#[tactic(auto, using(unbroken::proofs::Fill::fill_end, unbroken::proofs::Fill::fill_start, unbroken::proofs::Fill::fill_step))]
-fn all_linkable(stores: u8, made: u8) -> [u8; 32]
-    ensures { result ≡ table (link_room stores made) 32 }
-{
-    let mut rooms = [0u8; 32];
-    let mut v: usize = 0;
-    while v < 32 {
-        rooms[v] = linkable(stores, made, v);
-        v += 1;
-    }
-    rooms
-}
-
-// Both rows of a store, working and checkpointed. This loop, too, leaves at no test.
-#[tactic(auto, using(unbroken::proofs::Pass::tally_end, unbroken::proofs::Pass::tally_start, unbroken::proofs::Pass::tally_step))]
-fn links_within(rooms: [u8; 32], links: [u8; 32], kept: [u8; 32]) -> bool
-    ensures { result ≡ all_below 32 (λ v. leb (get_or links v 0) (get_or rooms v 0) && leb (get_or kept v 0) (get_or rooms v 0)) }
-{
-    let mut fine = true;
-    let mut v: usize = 0;
-    while v < 32 {
-        fine = both(fine, both(links[v] <= rooms[v], kept[v] <= rooms[v]));
-        v += 1;
-    }
-    fine
-}
-
-// A store behind the last has no link.
-#[tactic(auto, using(crate::proofs::Same::below_same))]
-fn rows_within(stores: u8, rooms: [u8; 32], p: usize, links: [u8; 32], kept: [u8; 32]) -> bool
-    ensures { result ≡ rows_within stores rooms p links kept }
-{
-    if p < stores as usize {
-        return links_within(rooms, links, kept);
-    }
-    let none = [0u8; 32];
-    links_within(none, links, kept)
-}
-
-// .. is not up, holds nothing and owes nothing.
-fn blank_store(s: Store) -> bool
-    ensures { result ≡ blank_store s }
-{
-    let empty = both(both(!s.up, s.held == 0), s.kept == 0);
-    both(both(empty, s.acksowed == 0), s.uacksowed == 0)
-}
-
-fn there_or_blank(stores: u8, p: usize, s: Store) -> bool
-    ensures { result ≡ (ltb p stores || blank_store s) }
-{
-    if p < stores as usize {
-        return true;
-    }
-    blank_store(s)
-}
-
-// Notes are owed only of the views that may have an ack, a uack: `acked`, `uacked`.
-fn store_fine(stores: u8, rooms: [u8; 32], acked: u32, uacked: u32, p: usize, s: Store) -> bool
-    ensures { result ≡ store_within stores rooms acked uacked p s }
-{
-    let links = s.viewlinks;
-    let kept = s.keptlinks;
-    let noted = both(
-        both(there_or_blank(stores, p, s), notes_fine(acked, s.acksowed)),
-        notes_fine(uacked, s.uacksowed),
-    );
-    both(noted, rows_within(stores, rooms, p, links, kept))
-}
-
-#[tactic(auto, using(crate::proofs::Rooms::stores_same, unbroken::proofs::Pass::pass_end, unbroken::proofs::Pass::pass_start, unbroken::proofs::Pass::pass_step, unbroken::proofs::Pass::pass_stop))]
-pub(crate) fn stores_fine(
-    stores: u8,
-    made: u8,
-    views: [View; 32],
-    entries: [Entry; 32],
-    shelves: [Store; 8],
-) -> bool
-    ensures { result ≡ all (store_fine stores made views entries) shelves }
-{
-    let rooms = all_linkable(stores, made);
-    let acked = ready(views);
-    let uacked = entered(entries);
-    let mut p: usize = 0;
-    while p < 8 {
-        let s = shelves[p];
-        let fine = store_fine(stores, rooms, acked, uacked, p, s);
-        if !fine {
-            return false;
-        }
-        p += 1;
-    }
-    true
+    m.shelves
+        .iter()
+        .enumerate()
+        .all(|(p, s)| store_fine(m, p, s))
 }

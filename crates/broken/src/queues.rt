@@ -1,164 +1,106 @@
-// The rows and queues that are not broken: what stands in a queue, and blanks behind the last actor.
+// The rows and queues that are not broken. The queues are gone over once: each view that stands there is marked, a bit of one word,
+// and one that is met again has its mark.
+ghost use Rattle.std.specs.Prelude.{◌≡◌, ◌≤◌, ◌<◌, ◌&&◌, ◌||◌, true, false, IfNone, IfSome, length, ltb, eqb};
+ghost use Rattle.protocol.specs.Broken.{rows_fine, waits, waits_at};
+ghost use Rattle.protocol.specs.Slots.{standing};
+ghost use Rattle.protocol.specs.Words.{all, joined};
+ghost use Rattle.broken.specs.Marks.{all_met, marks_after, marks_of, place_met, queue_marks, queue_met, queues_met};
 
-ghost use Rattle.std.specs.Prelude.{◌≡◌, true, ◌&&◌, ◌||◌, not, ◌≤◌, ◌<◌, eqb, ltb, take};
-ghost use Rattle.protocol.specs.Words.{bit, joined, all};
-ghost use Rattle.protocol.specs.Broken.{rows_fine, waits_at};
-ghost use Rattle.broken.specs.Marks.{all_met, marks_after, place_met, queue_met, queue_marks, queues_met, marks_of};
+use protocol::sets::{is_in, with};
+use protocol::{Queue, State, View};
 
-use super::broken::both;
-use protocol::{Queue, View};
-
-// What a pass over the queues finds: whether all is fine, and the views met, a bit each.
-#[derive(Clone, Copy)]
-pub(crate) struct Met {
-    pub(crate) fine: bool,
-    pub(crate) marks: u32,
-}
-
-// What stands behind the last actor is blank.
-fn row_fine(actors: u8, a: usize, x: u8) -> bool
-    ensures { result ≡ (ltb a actors || eqb x 0) }
+/// What stands behind the last actor is blank.
+#[tactic(auto, unfolding(protocol::specs::Broken::rows_fine, protocol::specs::Words::all_from))]
+pub(crate) fn rows_fine(actors: u8, rows: &[u8; 8]) -> bool
+    ensures each { result ≡ rows_fine actors rows.now }
+    ensures long { length rows.now ≡ 8 }
 {
-    if a < actors as usize {
-        return true;
-    }
-    x == 0
+    rows.iter()
+        .enumerate()
+        .all(|(a, &x)| a < actors as usize || x == 0)
 }
 
-pub(crate) fn rows_fine(actors: u8, rows: [u8; 8]) -> bool
-    ensures { result ≡ rows_fine actors rows }
+/// Phases 1 to 4 stand in a queue.
+pub(crate) fn waits(phase: u8) -> bool
+    ensures { result ≡ waits phase }
 {
-    let mut a: usize = 0;
-    while a < 8 {
-        let fine = row_fine(actors, a, rows[a]);
-        if !fine {
-            return false;
-        }
-        a += 1;
-    }
-    true
+    1 <= phase && phase <= 4
 }
 
-// The view that stands at place i of an actor's queue waits, behind the head in phase 1.
-fn waiting_fine(a: usize, i: usize, w: View) -> bool
-    ensures { result ≡ waits_at a i w }
+/// The view that stands at place i of an actor's queue waits, behind the head in phase 1.
+fn waits_at(a: usize, i: usize, w: &View) -> bool
+    ensures { result ≡ waits_at a i w.now }
 {
-    if w.actor as usize != a {
-        return false;
-    }
-    if w.phase < 1 {
-        return false;
-    }
-    if 4 < w.phase {
-        return false;
-    }
-    if i == 0 {
-        return true;
-    }
-    w.phase == 1
+    w.actor as usize == a && waits(w.phase) && (i == 0 || w.phase == 1)
 }
 
-// A set of views with one more.
-pub(crate) fn marked(marks: u32, v: u8) -> u32
-    requires { v < 32 }
-    ensures { result ≡ joined marks v }
+/// The view at a place of an actor's queue is not met before, and waits there. A number that no view has waits nowhere.
+fn place_met(m: &State, marks: u32, a: usize, i: usize, v: u8) -> bool
+    ensures met { result ≡ place_met m.now.views a marks i v }
+    ensures low { result ≡ true → v < 32 }
 {
-    marks | (1u32 << v)
+    match m.views.get(v as usize) {
+        Some(w) => !is_in(marks, v as usize) && waits_at(a, i, w),
+        None => false,
+    }
 }
 
-// The view that stands at place i of an actor's queue was not met before, and waits there.
-fn place_met(marks: u32, a: usize, i: usize, v: u8, w: View) -> bool
-    ensures { result ≡ (ltb v 32 && (not (bit marks v) && waits_at a i w)) }
-{
-    // A number that no view has.
-    if 32 <= v {
-        return false;
-    }
-    if (marks >> v) % 2 == 1 {
-        return false;
-    }
-    waiting_fine(a, i, w)
-}
-
-#[tactic(auto, using(crate::proofs::Meet::meet_end, crate::proofs::Meet::meet_marks, crate::proofs::Meet::meet_start, crate::proofs::Meet::meet_step, crate::proofs::Meet::meet_stop, crate::proofs::Slots::place_below, crate::proofs::Slots::place_slot))]
-fn standing_met(views: [View; 32], a: usize, len: u8, standing: [u8; 16], before: u32) -> Met
-    requires { len ≤ 16 }
-    ensures fine { result.fine ≡ all_met (place_met views a) joined before 0 (take len standing) }
-    ensures marks { result.fine ≡ true → result.marks ≡ marks_after joined before (take len standing) }
+/// The marks with those of a queue's views; none where one is met before, or doesn't wait at its place.
+#[tactic(auto, using(crate::proofs::Meet::meet_end, crate::proofs::Meet::meet_marks, crate::proofs::Meet::meet_start, crate::proofs::Meet::meet_step, crate::proofs::Meet::meet_stop))]
+fn standing_met(m: &State, a: usize, q: &Queue, before: u32) -> Option<u32>
+    requires { q.now.len ≤ 16 }
+    ensures some { IfSome result (λ marks. (all_met (place_met m.now.views a) joined before 0 (standing q.now) ≡ true) × (marks ≡ marks_after joined before (standing q.now))) }
+    ensures none { IfNone result (all_met (place_met m.now.views a) joined before 0 (standing q.now) ≡ false) }
 {
     let mut marks = before;
-    let mut i: usize = 0;
-    while i < len as usize {
-        let v = standing[i];
-        // Of a number that no view has any view may be read: the test looks at the number first.
-        let w = views[v as usize % 32];
-        let fine = place_met(marks, a, i, v, w);
-        if !fine {
-            return Met {
-                fine: false,
-                marks: 0,
-            };
+    for i in 0..q.len as usize {
+        let v = q.views[i];
+        if !place_met(m, marks, a, i, v) {
+            return None;
         }
-        marks = marked(marks, v);
-        i += 1;
+        marks = with(marks, v as usize);
     }
-    Met {
-        fine: true,
-        marks: marks,
-    }
+    Some(marks)
 }
 
-// Behind its end a queue is blank. The loop leaves at no test, so that it runs on all sixteen at once.
-#[tactic(auto, using(unbroken::proofs::Pass::tally_all, unbroken::proofs::Pass::tally_start, unbroken::proofs::Pass::tally_step))]
-fn blank_behind(len: u8, standing: [u8; 16]) -> bool
-    ensures { result ≡ all (λ i v. ltb i len || eqb v 0) standing }
+/// Behind its end a queue is blank.
+#[tactic(auto, unfolding(protocol::specs::Words::all_from))]
+fn is_blank_behind(q: &Queue) -> bool
+    ensures blank { result ≡ all (λ i v. ltb i q.now.len || eqb v 0) q.now.views }
+    ensures long { length q.now.views ≡ 16 }
 {
-    let mut blank = true;
-    let mut i: usize = 0;
-    while i < 16 {
-        blank = both(blank, row_fine(len, i, standing[i]));
-        i += 1;
-    }
-    blank
+    q.views
+        .iter()
+        .enumerate()
+        .all(|(i, &v)| i < q.len as usize || v == 0)
 }
 
-#[tactic(auto, unfolding(crate::specs::Marks::queue_marks), using(crate::proofs::Marked::queue_goes, crate::proofs::Marked::queue_stop, unbroken::proofs::Laws::Tests::and_left))]
-fn queue_met(actors: u8, views: [View; 32], a: usize, q: Queue, marks: u32) -> Met
-    ensures fine { result.fine ≡ queue_met actors views marks a q }
-    ensures marks { result.fine ≡ true → result.marks ≡ queue_marks marks q }
+/// The marks with those of a queue; none where the queue is broken.
+#[tactic(auto, unfolding(crate::specs::Marks::queue_met, crate::specs::Marks::queue_marks))]
+fn queue_met(m: &State, a: usize, q: &Queue, marks: u32) -> Option<u32>
+    ensures some { IfSome result (λ after. (queue_met m.now.actors m.now.views marks a q.now ≡ true) × (after ≡ queue_marks marks q.now)) }
+    ensures none { IfNone result (queue_met m.now.actors m.now.views marks a q.now ≡ false) }
 {
-    let standing = q.views;
-    let blank = both(row_fine(actors, a, q.len), blank_behind(q.len, standing));
-    if !both(q.len <= 16, blank) {
-        return Met {
-            fine: false,
-            marks: 0,
-        };
+    let blank = is_blank_behind(q);
+    // Behind the last actor a queue is empty.
+    let empty = a < m.actors as usize || q.len == 0;
+    if 16 < q.len || !empty || !blank {
+        return None;
     }
-    standing_met(views, a, q.len, standing, marks)
+    standing_met(m, a, q, marks)
 }
 
+/// The marks of all queues; none where one is broken, or a view stands at two places.
 #[tactic(auto, using(crate::proofs::Meet::meet_end, crate::proofs::Meet::meet_marks, crate::proofs::Meet::meet_start, crate::proofs::Meet::meet_step, crate::proofs::Meet::meet_stop))]
-pub(crate) fn queues_met(actors: u8, views: [View; 32], queues: [Queue; 8]) -> Met
-    ensures fine { result.fine ≡ queues_met actors views queues }
-    ensures marks { result.fine ≡ true → result.marks ≡ marks_of queues }
+pub(crate) fn queues_met(m: &State) -> Option<u32>
+    ensures some { IfSome result (λ marks. (queues_met m.now.actors m.now.views m.now.queues ≡ true) × (marks ≡ marks_of m.now.queues)) }
+    ensures none { IfNone result (queues_met m.now.actors m.now.views m.now.queues ≡ false) }
+    ensures long { length m.now.queues ≡ 8 }
 {
-    let mut marks: u32 = 0;
-    let mut a: usize = 0;
-    while a < 8 {
-        let q = queues[a];
-        let met = queue_met(actors, views, a, q, marks);
-        if !met.fine {
-            return Met {
-                fine: false,
-                marks: 0,
-            };
-        }
-        marks = met.marks;
-        a += 1;
+    let queues: &[Queue] = &m.queues;
+    let mut marks = 0;
+    for (a, q) in queues.iter().enumerate() {
+        marks = queue_met(m, a, q, marks)?;
     }
-    Met {
-        fine: true,
-        marks: marks,
-    }
+    Some(marks)
 }

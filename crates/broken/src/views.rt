@@ -1,147 +1,121 @@
-// The views that are not broken: their cause links, what each phase and role sets, and that those which wait were met in a queue.
+// The views that are not broken: their cause links, what each phase and role sets, and that those which wait stand in a queue.
+ghost use Rattle.std.specs.Prelude.{◌≡◌, ◌-◌, ◌&&◌, ◌<◌, get_or, length};
+ghost use Rattle.broken.specs.Marks.{view_met, waits_met};
+ghost use Rattle.protocol.specs.Broken.{is_unset, link_fine, links_fine, made_view, phase_fine, role_fine};
+ghost use Rattle.protocol.specs.Words.{all};
 
-ghost use Rattle.std.specs.Prelude.{◌≡◌, ◌&&◌, ◌<◌, ◌-◌, ◌/◌, eqb, ltb};
-ghost use Rattle.protocol.specs.Words.{pick, bit, all};
-ghost use Rattle.protocol.specs.Broken.{links_fine, is_unset, phase_fine, role_fine, made_view};
-ghost use Rattle.broken.specs.Marks.{waits_met, view_met};
+use crate::held::blank_links;
+use crate::queues::waits;
+use protocol::sets::is_in;
+use protocol::{State, View};
 
-use super::broken::both;
-use super::held::blank_links;
-use protocol::View;
-
-// A link with a cause names a store, one without is blank.
-fn link_fine(stores: u8, causes: u16, j: usize, link: u8) -> bool
+/// A cause is below its key, and its link names a store; a link without one is blank.
+fn link_fine(stores: u8, key: usize, causes: u16, j: usize, link: u8) -> bool
     requires { j < 16 }
-    ensures { result ≡ pick (bit causes j) (ltb link stores) (eqb link 0) }
+    ensures { result ≡ link_fine stores key causes j link }
 {
-    if (causes >> j) % 2 != 1 {
-        return link == 0;
+    if is_in(u32::from(causes), j) {
+        j < key && link < stores
+    } else {
+        link == 0
     }
-    link < stores
 }
 
-#[tactic(auto, unfolding(protocol::specs::Broken::links_fine, protocol::specs::Words::all_from), using(crate::proofs::Causes::links_high, crate::proofs::Causes::links_low, unbroken::proofs::Pass::tally_all, unbroken::proofs::Pass::tally_start, unbroken::proofs::Pass::tally_step))]
-fn links_fine(stores: u8, key: usize, causes: u16, links: [u8; 16]) -> bool
-    requires { key < 16 }
-    ensures { result ≡ links_fine stores key causes links }
+#[tactic(auto, unfolding(protocol::specs::Words::all_from))]
+fn each_link_fine(stores: u8, key: usize, w: &View) -> bool
+    ensures each { result ≡ all (link_fine stores key w.now.causes) w.now.links }
+    ensures long { length w.now.links ≡ 16 }
 {
-    // Most views have no cause: then the sixteen are tested at once.
-    if causes == 0 {
-        return blank_links(links);
-    }
-    // A cause isn't below the key.
-    if causes >> key != 0 {
-        return false;
-    }
-    let mut fine = true;
-    let mut j: usize = 0;
-    while j < 16 {
-        fine = both(fine, link_fine(stores, causes, j, links[j]));
-        j += 1;
-    }
-    fine
+    w.links
+        .iter()
+        .enumerate()
+        .all(|(j, &link)| link_fine(stores, key, w.causes, j, link))
 }
 
-// Nothing but the actor is set.
-fn unset(w: View) -> bool
-    ensures { result ≡ is_unset w }
+/// Most views have no cause: then the sixteen are compared at once.
+fn links_fine(stores: u8, key: usize, w: &View) -> bool
+    ensures each { result ≡ all (link_fine stores key w.now.causes) w.now.links }
+    ensures long { length w.now.links ≡ 16 }
 {
-    let nowhere = both(w.store == 0, w.viewlink == 0);
-    let kept = both(both(nowhere, !w.changed), w.tries == 0);
-    both(both(kept, w.causes == 0), w.word == 0)
+    if w.causes == 0 {
+        return blank_links(&w.links);
+    }
+    each_link_fine(stores, key, w)
 }
 
-fn phase_fine(stores: u8, w: View) -> bool
-    ensures { result ≡ phase_fine stores w }
+/// Nothing but the actor is set.
+fn is_unset(w: &View) -> bool
+    ensures { result ≡ is_unset w.now }
+{
+    w.store == 0 && w.viewlink == 0 && !w.changed && w.tries == 0 && w.causes == 0 && w.word == 0
+}
+
+/// In phase 0 nothing is set; else the current store and the viewlink name stores, which is tried again three times at most.
+fn phase_fine(stores: u8, w: &View) -> bool
+    ensures { result ≡ phase_fine stores w.now }
 {
     if w.phase == 0 {
-        return unset(w);
+        is_unset(w)
+    } else {
+        w.store < stores && w.viewlink < stores && w.tries <= 3
     }
-    both(both(w.store < stores, w.viewlink < stores), w.tries <= 3)
 }
 
-fn role_fine(sender: u8, v: usize, w: View) -> bool
-    ensures { result ≡ role_fine sender v w }
+#[tactic(auto, unfolding(protocol::specs::Broken::links_fine))]
+fn record_fine(stores: u8, key: usize, w: &View) -> bool
+    ensures { result ≡ (links_fine stores key w.now.causes w.now.links && phase_fine stores w.now) }
+{
+    links_fine(stores, key, w) && phase_fine(stores, w)
+}
+
+/// Phase 0 is for receivers only. A receiver has no causes, and isn't the sender.
+fn role_fine(sender: u8, v: usize, w: &View) -> bool
+    ensures { result ≡ role_fine sender v w.now }
 {
     if v % 2 == 0 {
-        return 1 <= w.phase;
+        1 <= w.phase
+    } else {
+        w.causes == 0 && w.actor != sender
     }
-    if w.causes != 0 {
-        return false;
-    }
-    w.actor != sender
 }
 
-fn made_view(actors: u8, made: u8, sender: u8, v: usize, w: View) -> bool
-    ensures { result ≡ made_view actors made sender v w }
+/// A view that isn't made is blank.
+fn made_view(m: &State, sender: u8, v: usize, w: &View) -> bool
+    ensures { result ≡ made_view m.now.actors m.now.made sender v w.now }
 {
-    if (made as usize) * 2 <= v {
-        if w.actor != 0 {
-            return false;
-        }
-        return w.phase == 0;
+    if v < m.made as usize * 2 {
+        w.actor < m.actors && w.phase <= 5 && role_fine(sender, v, w)
+    } else {
+        w.actor == 0 && w.phase == 0
     }
-    if actors <= w.actor {
-        return false;
-    }
-    if 5 < w.phase {
-        return false;
-    }
-    role_fine(sender, v, w)
 }
 
-// A view in phases 1 to 4 was met in a queue.
-fn waits_met(marks: u32, v: usize, w: View) -> bool
+/// A view in phases 1 to 4 is met in a queue.
+fn waits_met(marks: u32, v: usize, w: &View) -> bool
     requires { v < 32 }
-    ensures { result ≡ waits_met marks v w }
+    ensures { result ≡ waits_met marks v w.now }
 {
-    if w.phase < 1 {
-        return true;
-    }
-    if 4 < w.phase {
-        return true;
-    }
-    (marks >> v) % 2 == 1
+    !waits(w.phase) || is_in(marks, v)
 }
 
-fn view_met(stores: u8, actors: u8, made: u8, sender: u8, marks: u32, v: usize, w: View) -> bool
+#[tactic(auto, unfolding(crate::specs::Marks::view_met))]
+fn view_met(m: &State, marks: u32, v: usize, w: &View) -> bool
     requires { v < 32 }
-    ensures { result ≡ (links_fine stores (v / 2) w.causes w.links && phase_fine stores w && made_view actors made sender v w && waits_met marks v w) }
+    ensures { result ≡ view_met m.now.stores m.now.actors m.now.made m.now.views marks v w.now }
 {
-    let links = w.links;
-    let recorded = both(
-        links_fine(stores, v / 2, w.causes, links),
-        phase_fine(stores, w),
-    );
-    both(
-        both(recorded, made_view(actors, made, sender, v, w)),
-        waits_met(marks, v, w),
-    )
+    // The number before is a receiver's sender; none is before 0.
+    let sender = m.views[v.saturating_sub(1)].actor;
+    record_fine(m.stores, v / 2, w) && made_view(m, sender, v, w) && waits_met(marks, v, w)
 }
 
-// The number before, where a receiver's sender stands; none is before 0.
-fn number_before(v: usize) -> usize
-    ensures { result ≡ v - 1 }
+/// Each view by itself; those that wait are met in the queues.
+#[tactic(auto, unfolding(protocol::specs::Words::all_from))]
+pub(crate) fn views_met(m: &State, marks: u32) -> bool
+    ensures each { result ≡ all (view_met m.now.stores m.now.actors m.now.made m.now.views marks) m.now.views }
+    ensures long { length m.now.views ≡ 32 }
 {
-    if v == 0 {
-        return 0;
-    }
-    v - 1
-}
-
-#[tactic(auto, unfolding(crate::specs::Marks::view_met), using(unbroken::proofs::Pass::pass_end, unbroken::proofs::Pass::pass_start, unbroken::proofs::Pass::pass_step, unbroken::proofs::Pass::pass_stop))]
-pub(crate) fn views_met(stores: u8, actors: u8, made: u8, views: [View; 32], marks: u32) -> bool
-    ensures { result ≡ all (view_met stores actors made views marks) views }
-{
-    let mut v: usize = 0;
-    while v < 32 {
-        let w = views[v];
-        let sender = views[number_before(v)];
-        let fine = view_met(stores, actors, made, sender.actor, marks, v, w);
-        if !fine {
-            return false;
-        }
-        v += 1;
-    }
-    true
+    m.views
+        .iter()
+        .enumerate()
+        .all(|(v, w)| view_met(m, marks, v, w))
 }

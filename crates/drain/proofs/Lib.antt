@@ -1,2 +1,2 @@
-pub mod Lowest
 pub mod Draining
+pub mod Told

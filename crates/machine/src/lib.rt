@@ -1,89 +1,79 @@
-// A machine by value: its setup, the test for a broken one, and its steps. Each method hands back the machine and its answer.
-
+//! A machine by value: its setup, the test for a broken one, and its steps. Each method hands back the machine and its answer.
 #![tactic(auto)]
 
 ghost use Rattle.std.specs.Prelude.{◌≡◌};
 ghost use Rattle.protocol.specs.Broken.{broken_of};
-ghost use Rattle.protocol.specs.Setup.{answered, empty_machine, setup_of};
+ghost use Rattle.protocol.specs.Refusal.{told};
+ghost use Rattle.protocol.specs.Setup.{empty_machine, setup_of};
 ghost use Rattle.protocol.specs.Step.{step_of};
-ghost use Rattle.machine.specs.Given.{given, having};
 
-use broken::is_broken;
+pub mod sound;
+
+use protocol::refusal::Refusal;
 use protocol::{Setup, State, Step};
+use rules::apply;
 
-mod about;
-mod past;
-mod places;
-mod single;
-mod steps;
-
+/// Any machine value, broken or not.
 #[derive(Clone, Copy)]
 pub struct Machine {
     pub state: State,
 }
 
-// A machine and document 01's number: 0 taken, or the refusal.
+/// A machine, and whether what was asked of it was taken.
 #[derive(Clone, Copy)]
 pub struct Answered {
     pub machine: Machine,
-    pub answer: u8,
+    pub answer: Result<(), Refusal>,
 }
 
 impl Machine {
-    // No stores, actors or interactions.
+    /// No stores, actors or interactions.
     pub fn empty() -> Machine
-        ensures { result ≡ having empty_machine }
+        ensures { result.state ≡ empty_machine }
     {
-        let state = broken::fresh::empty();
-        Machine { state }
+        Machine {
+            state: broken::fresh::empty(),
+        }
     }
 
-    // 11 with the empty machine for an illegal setup, or 0 with the fresh machine.
+    /// The fresh machine of a legal setup; the empty one beside a refusal.
     #[tactic(auto, unfolding(protocol::specs::Setup::setup_of))]
     pub fn setup(u: Setup) -> Answered
-        ensures { result ≡ given (setup_of u) }
+        ensures { told result.answer result.machine.state ≡ setup_of u }
     {
-        let homes = u.homes;
-        let lists = u.lists;
-        let fine = broken::fresh::legal(u.stores, u.actors, homes, lists);
-        if fine {
-            let state = broken::fresh::fresh(u.stores, u.actors, homes, lists);
-            let machine = Machine { state };
-            return Answered { machine, answer: 0 };
+        if !broken::fresh::legal(&u) {
+            return Answered {
+                machine: Machine::empty(),
+                answer: Err(Refusal::IllegalSetup),
+            };
         }
-        let machine = Machine::empty();
+        let state = broken::fresh::fresh(&u);
         Answered {
-            machine,
-            answer: 11,
+            machine: Machine { state },
+            answer: Ok(()),
         }
     }
 
-    // True exactly where a clause says so, for every value.
-    pub fn broken(self) -> bool
-        ensures { result ≡ broken_of self.state }
+    /// True exactly where a clause says so, for every value.
+    pub fn is_broken(&self) -> bool
+        ensures { result ≡ broken_of self.now.state }
     {
-        let m = self.state;
-        is_broken(m)
+        broken::is_broken(&self.state)
     }
 
-    // A refused step gives back the machine unchanged.
-    pub(crate) fn refused(self, number: u8) -> Answered
-        ensures { result ≡ given (answered number self.state) }
+    /// One step. A refused one gives back the machine unchanged.
+    #[tactic(auto, using(unbroken::proofs::Laws::Room::bounds), unfolding(protocol::specs::Step::step_of))]
+    pub fn step(self, step: Step) -> Answered
+        ensures { told result.answer result.machine.state ≡ step_of self.state step }
     {
-        Answered {
-            machine: self,
-            answer: number,
+        if self.is_broken() {
+            return Answered {
+                machine: self,
+                answer: Err(Refusal::BrokenMachine),
+            };
         }
-    }
-
-    // One step: 1 for a broken value, else what its rule says.
-    #[tactic(auto, unfolding(protocol::specs::Step::step_of))]
-    pub fn step(self, s: Step) -> Answered
-        ensures { result ≡ given (step_of self.state s) }
-    {
-        if self.broken() {
-            return self.refused(1);
-        }
-        self.step_unbroken(s)
+        let mut machine = self;
+        let answer = apply(&mut machine.state, step);
+        Answered { machine, answer }
     }
 }

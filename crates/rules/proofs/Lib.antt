@@ -1,4 +1,2 @@
-pub mod Inside
-pub mod Kit
-pub mod Shift
-pub mod Standing
+pub mod Below
+pub mod Written

@@ -1,2 +1,0 @@
-pub mod About
-pub mod Slots

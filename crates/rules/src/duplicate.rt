@@ -1,23 +1,29 @@
 // Step 18, duplicate: what (0 record, 1 ack, 2 update, 3 uack), store, key, role.
-ghost use Rattle.std.specs.Prelude.{ℕ, ◌≡◌};
-ghost use Rattle.protocol.specs.declared.State.{State};
-ghost use Rattle.rules.specs.Slots.{Stands, outcome};
+ghost use Rattle.std.specs.Prelude.{◌≡◌};
+ghost use Rattle.protocol.specs.Refusal.{told};
 ghost use Rattle.protocol.specs.Step.{rule_of};
 ghost use Rattle.protocol.specs.declared.Step.TheVariants.{Duplicate};
+ghost use Rattle.unbroken.specs.Bounds.{Bounds};
 
-use crate::lose::copies;
-use crate::rule::one_more;
-use crate::slots::{Slots, Tried};
+use crate::guards::one_more;
+use crate::lose::{copies, copy_in_flight, set_copies};
+use protocol::State;
+use protocol::refusal::Refusal;
 
-impl Slots {
-    // One more copy, up to 15.
-    pub(crate) fn duplicate(self, what: u8) -> Tried
-        ensures { (m : State) (p k role : ℕ) → Stands m (Duplicate what p k role) self → rule_of m (Duplicate what p k role) ≡ outcome m (Duplicate what p k role) result }
-    {
-        let copies = copies(what, self.records, self.acks, self.updates, self.uacks);
-        if copies == 0 {
-            return self.with(7);
-        }
-        self.counted(what, one_more(copies))
-    }
+/// One more copy, up to 15, and no change at 15.
+#[tactic(auto, unfolding(protocol::specs::Step::rule_of, protocol::specs::Duplicate::duplicated))]
+pub(crate) fn duplicate(
+    m: &mut State,
+    what: u8,
+    store: u8,
+    key: u8,
+    role: u8,
+) -> Result<(), Refusal>
+    requires { Bounds m.old }
+    ensures { told result m.new ≡ rule_of m.old (Duplicate what store key role) }
+{
+    let (p, v) = copy_in_flight(m, what, store, key, role)?;
+    let n = copies(m, what, p, v);
+    set_copies(m, what, p, v, one_more(n));
+    Ok(())
 }

@@ -1,33 +1,25 @@
 // Step 13, coordinator timeout: key, role.
-ghost use Rattle.std.specs.Prelude.{ℕ, ◌≡◌};
-ghost use Rattle.protocol.specs.declared.State.{State};
-ghost use Rattle.rules.specs.Slots.{Stands, outcome};
+ghost use Rattle.std.specs.Prelude.{◌≡◌};
+ghost use Rattle.protocol.specs.Refusal.{told};
 ghost use Rattle.protocol.specs.Step.{rule_of};
 ghost use Rattle.protocol.specs.declared.Step.TheVariants.{Expire};
+ghost use Rattle.unbroken.specs.Bounds.{Bounds};
 
-use crate::slots::{Slots, Tried};
-use protocol::{Entry, Status, status_number};
+use crate::guards::view_in;
+use protocol::refusal::Refusal;
+use protocol::{State, Status};
 
-impl Slots {
-    // Waiting becomes to-send.
-    pub(crate) fn expire(self) -> Tried
-        ensures { (m : State) (k role : ℕ) → Stands m (Expire k role) self → rule_of m (Expire k role) ≡ outcome m (Expire k role) result }
-    {
-        let e = self.entry;
-        let s = e.status;
-        if status_number(s) != 2 {
-            return self.with(7);
-        }
-        let entry = Entry {
-            status: Status::ToSend,
-            destination: e.destination,
-            own: e.own,
-        };
-        let mut x = self;
-        x.entry = entry;
-        Tried {
-            answer: 0,
-            slots: x,
-        }
+/// Waiting becomes to-send.
+#[tactic(auto, unfolding(protocol::specs::Step::rule_of, protocol::specs::Expire::expire_no, protocol::specs::Expire::expired))]
+pub(crate) fn expire(m: &mut State, key: u8, role: u8) -> Result<(), Refusal>
+    requires { Bounds m.old }
+    ensures { told result m.new ≡ rule_of m.old (Expire key role) }
+{
+    let v = view_in(m, key, role)?;
+    let e = &mut m.entries[v];
+    if e.status != Status::Waiting {
+        return Err(Refusal::NotReady);
     }
+    e.status = Status::ToSend;
+    Ok(())
 }

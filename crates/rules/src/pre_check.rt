@@ -1,69 +1,59 @@
 // Step 3, pre-check: actor.
-ghost use Rattle.std.specs.Prelude.{ℕ, ◌<◌, ◌&&◌, ◌≡◌};
-ghost use Rattle.protocol.specs.Setup.{empty_machine};
-ghost use Rattle.protocol.specs.Words.{bit, pick, table};
-ghost use Rattle.protocol.specs.Writes.{with_views};
-ghost use Rattle.protocol.specs.declared.State.{State};
-ghost use Rattle.protocol.specs.PreCheck.{checked_link};
-ghost use Rattle.rules.specs.Slots.{Stands, outcome};
+ghost use Rattle.std.specs.Prelude.{◌≡◌, ◌<◌};
+ghost use Rattle.protocol.specs.PreCheck.{checked_link, checked_view};
+ghost use Rattle.protocol.specs.Refusal.{told};
 ghost use Rattle.protocol.specs.Step.{rule_of};
+ghost use Rattle.protocol.specs.Words.{table};
 ghost use Rattle.protocol.specs.declared.Step.TheVariants.{PreCheck};
+ghost use Rattle.unbroken.specs.Bounds.{Bounds};
 
-use crate::slots::{Slots, Tried};
-use protocol::View;
+use crate::guards::head_in_phase;
+use protocol::refusal::Refusal;
+use protocol::sets::is_in;
+use protocol::{State, View, phase};
 
-impl Slots {
-    // Head in phase 1. Each cause link becomes the store recorded for that receipt if its changed flag is set. Phase 2.
-    pub(crate) fn pre_check(self) -> Tried
-        ensures { (m : State) (a : ℕ) → Stands m (PreCheck a) self → rule_of m (PreCheck a) ≡ outcome m (PreCheck a) result }
-    {
-        let q = self.queue;
-        if q.len == 0 {
-            return self.with(7);
-        }
-        let mut w = self.view;
-        if w.phase != 1 {
-            return self.with(7);
-        }
-        let past = self.past;
-        let links = past.links;
-        w.links = links;
-        w.phase = 2;
-        let mut x = self;
-        x.view = w;
-        Tried {
-            answer: 0,
-            slots: x,
-        }
-    }
-}
-
-// The link of j: the store of that receipt, if j is a cause and the receipt's changed flag is set.
-fn checked_link(receipt: View, causes: u16, link: u8, j: usize) -> u8
+/// A cause link becomes the store recorded for that receipt if its changed flag is set.
+fn checked_link(m: &State, w: &View, j: usize) -> u8
     requires { j < 16 }
-    ensures { result ≡ pick (bit causes j && receipt.changed) receipt.store link }
+    ensures { result ≡ checked_link m.now w.now j }
 {
-    if (causes >> j) % 2 != 1 {
-        return link;
+    let receipt = &m.views[j * 2 + 1];
+    if is_in(u32::from(w.causes), j) && receipt.changed {
+        receipt.store
+    } else {
+        w.links[j]
     }
-    if receipt.changed {
-        return receipt.store;
-    }
-    link
 }
 
-// The contract's machine has these views; nothing else of it is looked at.
-#[tactic(auto, using(unbroken::proofs::Fill::fill_end, unbroken::proofs::Fill::fill_start, unbroken::proofs::Fill::fill_step))]
-pub(crate) fn checked_links(views: [View; 32], w: View) -> [u8; 16]
-    ensures { result ≡ table (checked_link (with_views empty_machine views) w) 16 }
+fn checked_links(m: &State, w: &View) -> [u8; 16]
+    ensures { result ≡ table (checked_link m.now w.now) 16 }
 {
-    let mut links = [0u8; 16];
-    let mut j: usize = 0;
-    while j < 16 {
-        let receipt = views[j * 2 + 1];
-        let link = checked_link(receipt, w.causes, w.links[j], j);
-        links[j] = link;
-        j += 1;
+    let mut links = [0; 16];
+    for j in 0..16 {
+        links[j] = checked_link(m, w, j);
     }
     links
+}
+
+/// Each cause link is brought up to its receipt. Phase 2.
+fn checked_view(m: &State, w: View) -> View
+    ensures { result ≡ checked_view m.now w }
+{
+    let links = checked_links(m, &w);
+    View {
+        phase: phase::READY,
+        links,
+        ..w
+    }
+}
+
+/// Head in phase 1.
+#[tactic(auto, unfolding(protocol::specs::Step::rule_of, protocol::specs::PreCheck::pre_check_no, protocol::specs::PreCheck::pre_checked))]
+pub(crate) fn pre_check(m: &mut State, actor: u8) -> Result<(), Refusal>
+    requires { Bounds m.old }
+    ensures { told result m.new ≡ rule_of m.old (PreCheck actor) }
+{
+    let v = head_in_phase(m, actor, phase::QUEUED)?;
+    m.views[v] = checked_view(m, m.views[v]);
+    Ok(())
 }

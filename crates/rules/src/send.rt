@@ -1,141 +1,116 @@
 // Step 1, send: from, to, own store, data, causes.
-ghost use Rattle.std.specs.Prelude.{◌<◌, eqb, ltb, ◌&&◌, ◌||◌, not, ◌≡◌};
-ghost use Rattle.protocol.specs.Setup.{empty_machine};
-ghost use Rattle.protocol.specs.Views.{first_view};
-ghost use Rattle.protocol.specs.Words.{bit, table};
-ghost use Rattle.protocol.specs.Writes.{with_made, with_views};
-ghost use Rattle.protocol.specs.declared.State.{State};
-ghost use Rattle.protocol.specs.Send.{causes_known, home_link, joined};
-ghost use Rattle.rules.specs.Slots.{Stands, outcome};
+ghost use Rattle.std.specs.Prelude.{◌≡◌, ◌<◌};
+ghost use Rattle.protocol.specs.Refusal.{told};
+ghost use Rattle.protocol.specs.Send.{cause_known, causes_known, home_link, joined, sent_view};
 ghost use Rattle.protocol.specs.Step.{rule_of};
+ghost use Rattle.protocol.specs.Words.{table};
 ghost use Rattle.protocol.specs.declared.Step.TheVariants.{Send};
+ghost use Rattle.unbroken.specs.Bounds.{Bounds};
 
-use crate::slots::{Slots, Tried};
-use protocol::{Message, Queue, View, unset_view};
+use protocol::refusal::Refusal;
+use protocol::sets::is_in;
+use protocol::{Message, Queue, State, View, phase};
 
-impl Slots {
-    // Own is in from's list; each cause is an interaction that from has received. The application message is in flight, and
-    // the sender's record joins the queue.
-    pub(crate) fn send(self, from: u8, to: u8, own: u8, word: u32, causes: u16) -> Tried
-        requires { (self.store < 8) × (self.made < 16 → self.queue.len < 16) }
-        ensures { (m : State) → Stands m (Send from to own word causes) self → rule_of m (Send from to own word causes) ≡ outcome m (Send from to own word causes) result }
-    {
-        if from == to {
-            return self.with(3);
-        }
-        if 16 <= self.made {
-            return self.with(4);
-        }
-        if (self.list >> self.store) % 2 != 1 {
-            return self.with(8);
-        }
-        let past = self.past;
-        if !past.known {
-            return self.with(9);
-        }
-        let queue = joined(self.queue, self.made * 2);
-        let message = Message {
-            flying: true,
-            own,
-            word,
-        };
-        let sender = sent_view(from, own, self.far, word, causes, self.home);
-        let receiver = unset_view(to);
-        let mut x = self;
-        x.queue = queue;
-        x.message = message;
-        x.view = sender;
-        x.facing = receiver;
-        x.made += 1;
-        Tried {
-            answer: 0,
-            slots: x,
-        }
-    }
-}
-
-// The sender's record: phase 1, store own, viewlink home of to, every cause link home of from.
-fn sent_view(from: u8, own: u8, far: u8, word: u32, causes: u16, home: u8) -> View
-    ensures { result ≡ first_view from own far word causes (table (home_link causes home) 16) }
-{
-    let links = home_links(causes, home);
-    let mut w = unset_view(from);
-    w.phase = 1;
-    w.store = own;
-    w.viewlink = far;
-    w.causes = causes;
-    w.word = word;
-    w.links = links;
-    w
-}
-
-// Whether j, if it is a cause, is an interaction that the actor has received; w is its receiver's record.
-fn cause_known(w: View, made: u8, actor: u8, causes: u16, j: usize) -> bool
-    requires { j < 16 }
-    ensures { result ≡ (not (bit causes j) || ltb j made && not (eqb w.phase 0) && eqb w.actor actor) }
-{
-    if (causes >> j) % 2 != 1 {
-        return true;
-    }
-    if made as usize <= j {
-        return false;
-    }
-    if w.phase == 0 {
-        return false;
-    }
-    w.actor == actor
-}
-
-// The contract's machine has these views and this number made; nothing else of it is looked at.
-#[tactic(auto, unfolding(protocol::specs::Send::causes_known), using(unbroken::proofs::Pass::below_end, unbroken::proofs::Pass::below_start, unbroken::proofs::Pass::below_step, unbroken::proofs::Pass::below_stop))]
-pub(crate) fn causes_known(views: [View; 32], made: u8, actor: u8, causes: u16) -> bool
-    ensures { result ≡ causes_known (with_made (with_views empty_machine views) made) actor causes }
-{
-    let mut j: usize = 0;
-    while j < 16 {
-        let w = views[j * 2 + 1];
-        if !cause_known(w, made, actor, causes, j) {
-            return false;
-        }
-        j += 1;
-    }
-    true
-}
-
-// The link of j at sending.
-fn home_link(causes: u16, home: u8, j: usize) -> u8
-    requires { j < 16 }
-    ensures { result ≡ home_link causes home j }
-{
-    if (causes >> j) % 2 == 1 {
-        return home;
-    }
-    0
-}
-
-#[tactic(auto, using(unbroken::proofs::Fill::fill_end, unbroken::proofs::Fill::fill_start, unbroken::proofs::Fill::fill_step))]
+/// Every cause link home of from.
 fn home_links(causes: u16, home: u8) -> [u8; 16]
     ensures { result ≡ table (home_link causes home) 16 }
 {
-    let mut links = [0u8; 16];
-    let mut j: usize = 0;
-    while j < 16 {
-        let link = home_link(causes, home, j);
-        links[j] = link;
-        j += 1;
+    let mut links = [0; 16];
+    for j in 0..16 {
+        links[j] = if is_in(u32::from(causes), j) { home } else { 0 };
     }
     links
 }
 
-// A view's number at the end of a queue.
-pub(crate) fn joined(q: Queue, view: u8) -> Queue
-    requires { q.len < 16 }
-    ensures { result ≡ joined q view }
+/// Whether j, if it is a cause, is an interaction that the actor has received.
+fn is_known(m: &State, actor: u8, causes: u16, j: usize) -> bool
+    requires { j < 16 }
+    ensures { result ≡ cause_known m.now actor causes j }
 {
-    let n = q.len;
-    let at = n as usize;
-    let mut longer = q;
-    longer.views[at] = view;
-    longer.len = n + 1;
-    longer
+    if !is_in(u32::from(causes), j) {
+        return true;
+    }
+    let receipt = &m.views[j * 2 + 1];
+    j < m.made as usize && receipt.phase != phase::NOT_MADE && receipt.actor == actor
+}
+
+// A `for`: `(0..16).all(..)` proves as std's `list_all`; from there to `causes_known` the proof didn't close, here or in `send`.
+#[tactic(auto, unfolding(protocol::specs::Send::causes_known))]
+fn are_known(m: &State, actor: u8, causes: u16) -> bool
+    ensures { result ≡ causes_known m.now actor causes }
+{
+    for j in 0..16 {
+        if !is_known(m, actor, causes, j) {
+            return false;
+        }
+    }
+    true
+}
+
+/// A view's number at the end of a queue.
+pub(crate) fn join(queue: &mut Queue, view: u8)
+    requires { queue.old.len < 16 }
+    ensures { queue.new ≡ joined queue.old view }
+{
+    queue.views[queue.len as usize] = view;
+    queue.len += 1;
+}
+
+fn sent_view(m: &State, from: u8, to: u8, own: u8, word: u32, causes: u16) -> View
+    requires { (from < 8) × (to < 8) }
+    ensures { result ≡ sent_view m.now from to own word causes }
+{
+    let links = home_links(causes, m.homes[from as usize]);
+    View {
+        phase: phase::QUEUED,
+        store: own,
+        viewlink: m.homes[to as usize],
+        causes,
+        word,
+        links,
+        ..View::unset(from)
+    }
+}
+
+/// Own is in from's list; each cause is an interaction that from has received. The message goes off, and the sender's record joins
+/// the queue.
+#[tactic(auto, unfolding(protocol::specs::Step::rule_of, protocol::specs::Send::send_no, protocol::specs::Send::sent))]
+pub(crate) fn send(
+    m: &mut State,
+    from: u8,
+    to: u8,
+    own: u8,
+    word: u32,
+    causes: u16,
+) -> Result<(), Refusal>
+    requires { Bounds m.old }
+    ensures { told result m.new ≡ rule_of m.old (Send from to own word causes) }
+{
+    if m.actors <= from || m.actors <= to || m.stores <= own {
+        return Err(Refusal::NotInMachine);
+    }
+    if from == to {
+        return Err(Refusal::SameEnds);
+    }
+    if 16 <= m.made {
+        return Err(Refusal::NoKeyLeft);
+    }
+    if !is_in(u32::from(m.lists[from as usize]), own as usize) {
+        return Err(Refusal::NotListed);
+    }
+    if !are_known(m, from, causes) {
+        return Err(Refusal::UnknownCause);
+    }
+    let key = m.made as usize;
+    let sender = sent_view(m, from, to, own, word, causes);
+    m.views[key * 2] = sender;
+    m.views[key * 2 + 1] = View::unset(to);
+    join(&mut m.queues[from as usize], key as u8 * 2);
+    m.messages[key] = Message {
+        flying: true,
+        own,
+        word,
+    };
+    m.made += 1;
+    Ok(())
 }

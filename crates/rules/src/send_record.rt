@@ -1,34 +1,23 @@
 // Step 4, send record: actor.
-ghost use Rattle.std.specs.Prelude.{ℕ, ◌≡◌};
-ghost use Rattle.protocol.specs.declared.State.{State};
-ghost use Rattle.rules.specs.Slots.{Stands, outcome};
+ghost use Rattle.std.specs.Prelude.{◌≡◌};
+ghost use Rattle.protocol.specs.Refusal.{told};
 ghost use Rattle.protocol.specs.Step.{rule_of};
 ghost use Rattle.protocol.specs.declared.Step.TheVariants.{SendRecord};
+ghost use Rattle.unbroken.specs.Bounds.{Bounds};
 
-use crate::rule::one_more;
-use crate::slots::{Slots, Tried};
+use crate::guards::{head_in_phase, one_more};
+use protocol::refusal::Refusal;
+use protocol::{State, phase};
 
-impl Slots {
-    // Head in phase 2. One record copy to its store. Phase 3.
-    pub(crate) fn send_record(self) -> Tried
-        ensures { (m : State) (a : ℕ) → Stands m (SendRecord a) self → rule_of m (SendRecord a) ≡ outcome m (SendRecord a) result }
-    {
-        let q = self.queue;
-        if q.len == 0 {
-            return self.with(7);
-        }
-        let mut w = self.view;
-        if w.phase != 2 {
-            return self.with(7);
-        }
-        w.phase = 3;
-        let records = one_more(self.records);
-        let mut x = self;
-        x.view = w;
-        x.records = records;
-        Tried {
-            answer: 0,
-            slots: x,
-        }
-    }
+/// Head in phase 2. One record copy to its store. Phase 3.
+#[tactic(auto, unfolding(protocol::specs::Step::rule_of, protocol::specs::SendRecord::send_record_no, protocol::specs::SendRecord::record_sent))]
+pub(crate) fn send_record(m: &mut State, actor: u8) -> Result<(), Refusal>
+    requires { Bounds m.old }
+    ensures { told result m.new ≡ rule_of m.old (SendRecord actor) }
+{
+    let v = head_in_phase(m, actor, phase::READY)?;
+    let at = m.views[v].store as usize * 32 + v;
+    m.views[v].phase = phase::SENT;
+    m.records[at] = one_more(m.records[at]);
+    Ok(())
 }

@@ -1,36 +1,27 @@
 // Step 10, send update: key, role.
-ghost use Rattle.std.specs.Prelude.{ℕ, ◌≡◌};
-ghost use Rattle.protocol.specs.declared.State.{State};
-ghost use Rattle.rules.specs.Slots.{Stands, outcome};
+ghost use Rattle.std.specs.Prelude.{◌≡◌};
+ghost use Rattle.protocol.specs.Refusal.{told};
 ghost use Rattle.protocol.specs.Step.{rule_of};
 ghost use Rattle.protocol.specs.declared.Step.TheVariants.{SendUpdate};
+ghost use Rattle.unbroken.specs.Bounds.{Bounds};
 
-use crate::rule::one_more;
-use crate::slots::{Slots, Tried};
-use protocol::{Entry, Status, status_number};
+use crate::guards::{one_more, view_in};
+use protocol::refusal::Refusal;
+use protocol::{State, Status};
 
-impl Slots {
-    // To-send. One update copy to the destination; waiting.
-    pub(crate) fn send_update(self) -> Tried
-        ensures { (m : State) (k role : ℕ) → Stands m (SendUpdate k role) self → rule_of m (SendUpdate k role) ≡ outcome m (SendUpdate k role) result }
-    {
-        let e = self.entry;
-        let s = e.status;
-        if status_number(s) != 1 {
-            return self.with(7);
-        }
-        let entry = Entry {
-            status: Status::Waiting,
-            destination: e.destination,
-            own: e.own,
-        };
-        let updates = one_more(self.updates);
-        let mut x = self;
-        x.entry = entry;
-        x.updates = updates;
-        Tried {
-            answer: 0,
-            slots: x,
-        }
+/// To-send. One update copy to the destination; waiting.
+#[tactic(auto, unfolding(protocol::specs::Step::rule_of, protocol::specs::SendUpdate::send_update_no, protocol::specs::SendUpdate::update_sent))]
+pub(crate) fn send_update(m: &mut State, key: u8, role: u8) -> Result<(), Refusal>
+    requires { Bounds m.old }
+    ensures { told result m.new ≡ rule_of m.old (SendUpdate key role) }
+{
+    let v = view_in(m, key, role)?;
+    let e = &mut m.entries[v];
+    if e.status != Status::ToSend {
+        return Err(Refusal::NotReady);
     }
+    e.status = Status::Waiting;
+    let at = e.destination as usize * 32 + v;
+    m.updates[at] = one_more(m.updates[at]);
+    Ok(())
 }

@@ -1,51 +1,42 @@
 // Step 7, actor takes ack: store, key, role.
-ghost use Rattle.std.specs.Prelude.{ℕ, ◌≡◌, ◌&&◌, not, eqb, get_or};
-ghost use Rattle.protocol.specs.declared.State.{State};
-ghost use Rattle.rules.specs.Slots.{Stands, outcome};
+ghost use Rattle.std.specs.Prelude.{◌≡◌, ◌<◌};
+ghost use Rattle.protocol.specs.Refusal.{told};
 ghost use Rattle.protocol.specs.Step.{rule_of};
-ghost use Rattle.protocol.specs.Words.{pick};
-ghost use Rattle.protocol.specs.Views.{phased};
+ghost use Rattle.protocol.specs.TakeAck.{accepts};
 ghost use Rattle.protocol.specs.declared.Step.TheVariants.{TakeAck};
+ghost use Rattle.unbroken.specs.Bounds.{Bounds};
 
-use crate::slots::{Slots, Tried};
-use protocol::{Queue, View};
+use crate::guards::{store_in, view_in};
+use protocol::refusal::Refusal;
+use protocol::{State, phase};
 
-impl Slots {
-    // A copy in flight. The copy goes; it counts for its queue's head alone, from the current store.
-    pub(crate) fn take_ack(self) -> Tried
-        ensures { (m : State) (p k role : ℕ) → Stands m (TakeAck p k role) self → rule_of m (TakeAck p k role) ≡ outcome m (TakeAck p k role) result }
-    {
-        if self.acks == 0 {
-            return self.with(7);
-        }
-        let view = acked(self.queue, self.view, self.store, self.number);
-        let mut x = self;
-        x.view = view;
-        x.acks -= 1;
-        Tried {
-            answer: 0,
-            slots: x,
-        }
-    }
+/// The view is its queue's head, in phase 3, and the store is its current one.
+fn accepts(m: &State, store: u8, v: usize) -> bool
+    requires bounds { Bounds m.now }
+    requires view { v < 32 }
+    ensures { result ≡ accepts m.now store v }
+{
+    let w = &m.views[v];
+    let queue = &m.queues[w.actor as usize];
+    queue.len != 0 && queue.views[0] as usize == v && w.phase == phase::SENT && w.store == store
 }
 
-// Phase 4, if the view is its queue's head, in phase 3, and the store is its current one.
-fn acked(q: Queue, w: View, store: u8, v: usize) -> View
-    ensures { result ≡ pick ((not (eqb q.len 0) && eqb (get_or q.views 0 0) v) && eqb w.phase 3 && eqb w.store store) (phased 4 w) w }
+/// A copy in flight, which goes. If the view accepts it: phase 4.
+#[tactic(auto, unfolding(protocol::specs::Step::rule_of, protocol::specs::TakeAck::take_ack_no, protocol::specs::TakeAck::ack_taken))]
+pub(crate) fn take_ack(m: &mut State, store: u8, key: u8, role: u8) -> Result<(), Refusal>
+    requires { Bounds m.old }
+    ensures { told result m.new ≡ rule_of m.old (TakeAck store key role) }
 {
-    if q.len == 0 {
-        return w;
+    let p = store_in(m, store)?;
+    let v = view_in(m, key, role)?;
+    let at = p * 32 + v;
+    if m.acks[at] == 0 {
+        return Err(Refusal::NotReady);
     }
-    if q.views[0] as usize != v {
-        return w;
+    let accepted = accepts(m, store, v);
+    m.acks[at] -= 1;
+    if accepted {
+        m.views[v].phase = phase::ACKNOWLEDGED;
     }
-    if w.phase != 3 {
-        return w;
-    }
-    if w.store != store {
-        return w;
-    }
-    let mut view = w;
-    view.phase = 4;
-    view
+    Ok(())
 }

@@ -1,47 +1,30 @@
 // Step 12, coordinator takes uack: store, key, role.
-ghost use Rattle.std.specs.Prelude.{ℕ, ◌≡◌};
-ghost use Rattle.protocol.specs.declared.State.{State};
-ghost use Rattle.rules.specs.Slots.{Stands, outcome};
+ghost use Rattle.std.specs.Prelude.{◌≡◌};
+ghost use Rattle.protocol.specs.Refusal.{told};
 ghost use Rattle.protocol.specs.Step.{rule_of};
-ghost use Rattle.protocol.specs.TakeUack.{finished_entry};
 ghost use Rattle.protocol.specs.declared.Step.TheVariants.{TakeUack};
+ghost use Rattle.unbroken.specs.Bounds.{Bounds};
 
-use crate::slots::{Slots, Tried};
-use protocol::{Entry, Status, status_number};
+use crate::guards::{store_in, view_in};
+use protocol::refusal::Refusal;
+use protocol::{State, Status};
 
-impl Slots {
-    // A copy in flight; it goes. If waiting and the store is the destination: done.
-    pub(crate) fn take_uack(self) -> Tried
-        ensures { (m : State) (p k role : ℕ) → Stands m (TakeUack p k role) self → rule_of m (TakeUack p k role) ≡ outcome m (TakeUack p k role) result }
-    {
-        if self.uacks == 0 {
-            return self.with(7);
-        }
-        let entry = finished_entry(self.store, self.entry);
-        let mut x = self;
-        x.entry = entry;
-        x.uacks -= 1;
-        Tried {
-            answer: 0,
-            slots: x,
-        }
-    }
-}
-
-// Done, if the entry is waiting and the store is its destination.
-fn finished_entry(store: u8, e: Entry) -> Entry
-    ensures { result ≡ finished_entry store e }
+/// A copy in flight, which goes. If waiting and the store is the destination: done.
+#[tactic(auto, unfolding(protocol::specs::Step::rule_of, protocol::specs::TakeUack::take_uack_no, protocol::specs::TakeUack::uack_taken))]
+pub(crate) fn take_uack(m: &mut State, store: u8, key: u8, role: u8) -> Result<(), Refusal>
+    requires { Bounds m.old }
+    ensures { told result m.new ≡ rule_of m.old (TakeUack store key role) }
 {
-    let s = e.status;
-    if status_number(s) != 2 {
-        return e;
+    let p = store_in(m, store)?;
+    let v = view_in(m, key, role)?;
+    let at = p * 32 + v;
+    if m.uacks[at] == 0 {
+        return Err(Refusal::NotReady);
     }
-    if e.destination != store {
-        return e;
+    m.uacks[at] -= 1;
+    let e = &mut m.entries[v];
+    if e.status == Status::Waiting && e.destination == store {
+        e.status = Status::Done;
     }
-    Entry {
-        status: Status::Done,
-        destination: e.destination,
-        own: e.own,
-    }
+    Ok(())
 }

@@ -1,38 +1,41 @@
 // Step 11, store takes update: store, key, role.
-ghost use Rattle.std.specs.Prelude.{ℕ, ◌<◌, ◌≡◌};
-ghost use Rattle.protocol.specs.declared.State.{State};
-ghost use Rattle.rules.specs.Slots.{Stands, outcome};
+ghost use Rattle.std.specs.Prelude.{◌≡◌, ◌<◌};
+ghost use Rattle.protocol.specs.Refusal.{told};
 ghost use Rattle.protocol.specs.Step.{rule_of};
+ghost use Rattle.protocol.specs.TakeUpdate.{updated_in};
 ghost use Rattle.protocol.specs.declared.Step.TheVariants.{TakeUpdate};
+ghost use Rattle.unbroken.specs.Bounds.{Bounds};
 
-use crate::rule::joined;
-use crate::slots::{Slots, Tried};
+use crate::guards::{store_in, view_in};
+use protocol::refusal::Refusal;
+use protocol::{State, Store, sets};
 
-impl Slots {
-    // Store up, a copy in flight. The copy goes; the opposite view's link there becomes the entry's own store. A uack is owed.
-    pub(crate) fn take_update(self) -> Tried
-        requires { (self.number < 32) × (self.entry.own < 8) }
-        ensures { (m : State) (p k role : ℕ) → Stands m (TakeUpdate p k role) self → rule_of m (TakeUpdate p k role) ≡ outcome m (TakeUpdate p k role) result }
-    {
-        let mut s = self.shelf;
-        if !s.up {
-            return self.with(5);
-        }
-        if self.updates == 0 {
-            return self.with(7);
-        }
-        let e = self.entry;
-        let v = self.number;
-        let o = v / 2 * 2 + (1 - v % 2);
-        let owed = joined(s.uacksowed, v);
-        s.viewlinks[o] = e.own + 1;
-        s.uacksowed = owed;
-        let mut x = self;
-        x.updates -= 1;
-        x.shelf = s;
-        Tried {
-            answer: 0,
-            slots: x,
-        }
+/// The viewlink of the opposite view becomes the own store, always, in the working state, and a uack is owed.
+fn update(s: &mut Store, v: usize, opposite: usize, own: u8)
+    requires { (v < 32) × (opposite < 32) × (own < 8) }
+    ensures { s.new ≡ updated_in s.old v opposite own }
+{
+    s.viewlinks[opposite] = own + 1;
+    s.uacksowed = sets::with(s.uacksowed, v);
+}
+
+/// Store up, a copy in flight, which goes.
+#[tactic(auto, unfolding(protocol::specs::Step::rule_of, protocol::specs::TakeUpdate::take_update_no, protocol::specs::TakeUpdate::update_taken))]
+pub(crate) fn take_update(m: &mut State, store: u8, key: u8, role: u8) -> Result<(), Refusal>
+    requires { Bounds m.old }
+    ensures { told result m.new ≡ rule_of m.old (TakeUpdate store key role) }
+{
+    let p = store_in(m, store)?;
+    let v = view_in(m, key, role)?;
+    let opposite = key as usize * 2 + (1 - role as usize);
+    let at = p * 32 + v;
+    if !m.shelves[p].up {
+        return Err(Refusal::StoreDown);
     }
+    if m.updates[at] == 0 {
+        return Err(Refusal::NotReady);
+    }
+    m.updates[at] -= 1;
+    update(&mut m.shelves[p], v, opposite, m.entries[v].own);
+    Ok(())
 }

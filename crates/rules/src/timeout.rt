@@ -1,66 +1,39 @@
 // Step 5, timeout: actor, store.
-ghost use Rattle.std.specs.Prelude.{ℕ, ◌<◌, ◌≡◌};
-ghost use Rattle.protocol.specs.declared.State.{State};
-ghost use Rattle.rules.specs.Slots.{Stands, outcome};
-ghost use Rattle.protocol.specs.Timeout.{is_spent, timed_view};
+ghost use Rattle.std.specs.Prelude.{◌≡◌};
+ghost use Rattle.protocol.specs.Refusal.{told};
 ghost use Rattle.protocol.specs.Step.{rule_of};
 ghost use Rattle.protocol.specs.declared.Step.TheVariants.{Timeout};
+ghost use Rattle.unbroken.specs.Bounds.{Bounds};
 
-use crate::slots::{Slots, Tried};
-use protocol::View;
+use crate::guards::head_in_phase;
+use protocol::refusal::Refusal;
+use protocol::sets::is_in;
+use protocol::{State, phase};
 
-// The current store, tried three times.
-fn spent(w: View, store: u8) -> bool
-    ensures { result ≡ is_spent store w }
+/// Head in phase 3; the store is in the list. `NotListed` for the current store is given only at three tries. Another one becomes
+/// current, and changed is set. Phase 2.
+#[tactic(auto, unfolding(protocol::specs::Step::rule_of, protocol::specs::Timeout::timeout_no, protocol::specs::Timeout::timed_out))]
+pub(crate) fn time_out(m: &mut State, actor: u8, store: u8) -> Result<(), Refusal>
+    requires { Bounds m.old }
+    ensures { told result m.new ≡ rule_of m.old (Timeout actor store) }
 {
+    if m.stores <= store {
+        return Err(Refusal::NotInMachine);
+    }
+    let v = head_in_phase(m, actor, phase::SENT)?;
+    if !is_in(u32::from(m.lists[actor as usize]), store as usize) {
+        return Err(Refusal::NotListed);
+    }
+    let w = &mut m.views[v];
     if w.store != store {
-        return false;
+        w.store = store;
+        w.changed = true;
+        w.tries = 0;
+    } else if w.tries < 3 {
+        w.tries += 1;
+    } else {
+        return Err(Refusal::NotListed);
     }
-    3 <= w.tries
-}
-
-// One try more at the current store; another one becomes current, and changed is set. Phase 2.
-fn timed(view: View, store: u8) -> View
-    requires { view.store ≡ store → view.tries < 3 }
-    ensures { result ≡ timed_view store view }
-{
-    let mut w = view;
-    w.phase = 2;
-    w.store = store;
-    if view.store == store {
-        w.tries = view.tries + 1;
-        return w;
-    }
-    w.changed = true;
-    w.tries = 0;
-    w
-}
-
-impl Slots {
-    // Head in phase 3; the store is in the list; 8 for the current one is given only at three tries.
-    pub(crate) fn timeout(self) -> Tried
-        requires { self.store < 8 }
-        ensures { (m : State) (a p : ℕ) → Stands m (Timeout a p) self → rule_of m (Timeout a p) ≡ outcome m (Timeout a p) result }
-    {
-        let q = self.queue;
-        if q.len == 0 {
-            return self.with(7);
-        }
-        let w = self.view;
-        if w.phase != 3 {
-            return self.with(7);
-        }
-        if (self.list >> self.store) % 2 != 1 {
-            return self.with(8);
-        }
-        if spent(w, self.store) {
-            return self.with(8);
-        }
-        let mut x = self;
-        x.view = timed(w, self.store);
-        Tried {
-            answer: 0,
-            slots: x,
-        }
-    }
+    w.phase = phase::READY;
+    Ok(())
 }

@@ -1,2 +1,3 @@
 pub mod Running
-pub mod Ends
+pub mod Valid
+pub mod Told

@@ -1,48 +1,133 @@
-// The book is read where it stands in the caller's bytes and never copied: a reader holds its slice and a place in it. A run has
-// no other way to the book's bytes than `byte_at` and `step_at`.
+//! A reader stands at a place of a book, and moves over its bytes. It never copies them.
+ghost use Rattle.std.specs.Prelude.{◌≡◌, ◌+◌, ◌*◌, ◌<◌, ◌≤◌, IfNone, IfSome, MatchOption, None, Some, length};
+ghost use Rattle.protocol.specs.Book.{byte, low16, low32, read_step};
 
-ghost use Rattle.std.specs.Prelude.{◌≡◌};
-ghost use Rattle.protocol.specs.Book.{byte, read_step};
+use protocol::Step;
 
-use super::book;
-use protocol::Read;
-
+/// The bytes of a book, which are only lent, and a place in them.
 #[derive(Clone, Copy)]
-pub(crate) struct Reader<'a> {
+pub struct Reader<'a> {
     pub book: &'a [u8],
     pub at: usize,
 }
 
-fn new<'a>(book: &'a [u8], at: usize) -> Reader<'a>
-    ensures { (result.book ≡ book.entry) × (result.at ≡ at) }
-{
-    Reader { book, at }
-}
+impl<'a> Reader<'a> {
+    /// The next byte.
+    fn byte(&mut self) -> Option<u8>
+        ensures some { IfSome result (λ b. (self.old.at < length self.old.book.now) × (b ≡ byte self.old.book.now self.old.at) × (self.new.at ≡ self.old.at + 1)) }
+        ensures none { IfNone result (length self.old.book.now ≤ self.old.at) }
+        ensures same { self.new.book ≡ self.old.book }
+    {
+        let &b = self.book.get(self.at)?;
+        self.at += 1;
+        Some(b)
+    }
 
-// The byte at the reader's place, 0 behind the end.
-fn byte<'a>(r: Reader<'a>) -> u8
-    ensures { result ≡ byte r.entry.book.now r.entry.at }
-{
-    book::byte(r.book, r.at)
-}
+    /// A number of two bytes, low first.
+    fn number(&mut self) -> Option<u16>
+        ensures some { IfSome result (λ n. (self.old.at + 1 < length self.old.book.now) × (n ≡ low16 self.old.book.now self.old.at) × (self.new.at ≡ self.old.at + 2)) }
+        ensures none { IfNone result (length self.old.book.now ≤ self.old.at + 1) }
+        ensures same { self.new.book ≡ self.old.book }
+    {
+        let low = self.byte()?;
+        let high = self.byte()?;
+        Some(u16::from(low) + u16::from(high) * 256)
+    }
 
-// The step at the reader's place.
-fn step<'a>(r: Reader<'a>) -> Read
-    ensures { result ≡ read_step r.entry.book.now r.entry.at }
-{
-    book::read_step(r.book, r.at)
-}
+    /// A number of four bytes, low first.
+    fn word(&mut self) -> Option<u32>
+        ensures some { IfSome result (λ n. (self.old.at + 3 < length self.old.book.now) × (n ≡ low32 self.old.book.now self.old.at) × (self.new.at ≡ self.old.at + 4)) }
+        ensures none { IfNone result (length self.old.book.now ≤ self.old.at + 3) }
+        ensures same { self.new.book ≡ self.old.book }
+    {
+        let low = self.number()?;
+        let high = self.number()?;
+        Some(u32::from(low) + u32::from(high) * 65536)
+    }
 
-// From a slice to a reader and back.
-pub(crate) fn byte_at(book: &[u8], at: usize) -> u8
-    ensures { result ≡ byte book.now at }
-{
-    byte(new(book, at))
-}
-
-// Public, so that whoever else has a step as bytes reads it by the book's own reader.
-pub fn step_at(book: &[u8], at: usize) -> Read
-    ensures { result ≡ read_step book.now at }
-{
-    step(new(book, at))
+    /// The step that stands here. Where none does, no more is said of the place.
+    // One `match`, longer than other functions: an arm for each kind, with its fields in the order of docs/BOOK.md.
+    #[tactic(auto, unfolding(protocol::specs::Book::read_step, protocol::specs::Book::width_of, protocol::specs::Book::step_made, protocol::specs::Book::short_made, protocol::specs::Book::repair_made))]
+    pub fn step(&mut self) -> Option<Step>
+        ensures step { MatchOption result (read_step self.old.book.now self.old.at ≡ None) (λ s. read_step self.old.book.now self.old.at ≡ Some (s, self.new.at)) }
+        ensures same { self.new.book ≡ self.old.book }
+    {
+        Some(match self.byte()? {
+            1 => Step::Send {
+                from: self.byte()?,
+                to: self.byte()?,
+                own: self.byte()?,
+                word: self.word()?,
+                causes: self.number()?,
+            },
+            2 => Step::Receive { key: self.byte()? },
+            3 => Step::PreCheck {
+                actor: self.byte()?,
+            },
+            4 => Step::SendRecord {
+                actor: self.byte()?,
+            },
+            5 => Step::Timeout {
+                actor: self.byte()?,
+                store: self.byte()?,
+            },
+            6 => Step::TakeRecord {
+                store: self.byte()?,
+                key: self.byte()?,
+                role: self.byte()?,
+            },
+            7 => Step::TakeAck {
+                store: self.byte()?,
+                key: self.byte()?,
+                role: self.byte()?,
+            },
+            8 => Step::PostCheck {
+                actor: self.byte()?,
+            },
+            9 => Step::TakeRepair {
+                key: self.byte()?,
+                role: self.byte()?,
+            },
+            10 => Step::SendUpdate {
+                key: self.byte()?,
+                role: self.byte()?,
+            },
+            11 => Step::TakeUpdate {
+                store: self.byte()?,
+                key: self.byte()?,
+                role: self.byte()?,
+            },
+            12 => Step::TakeUack {
+                store: self.byte()?,
+                key: self.byte()?,
+                role: self.byte()?,
+            },
+            13 => Step::Expire {
+                key: self.byte()?,
+                role: self.byte()?,
+            },
+            14 => Step::Lose {
+                what: self.byte()?,
+                store: self.byte()?,
+                key: self.byte()?,
+                role: self.byte()?,
+            },
+            15 => Step::Crash {
+                store: self.byte()?,
+            },
+            16 => Step::Restart {
+                store: self.byte()?,
+            },
+            17 => Step::Checkpoint {
+                store: self.byte()?,
+            },
+            18 => Step::Duplicate {
+                what: self.byte()?,
+                store: self.byte()?,
+                key: self.byte()?,
+                role: self.byte()?,
+            },
+            _ => return None,
+        })
+    }
 }

@@ -1,4 +1,3 @@
--- The loop makes each store, up where it is there. Assumes nothing.
 use Rattle.std.proofs.Common.{rules}
 use Rattle.unbroken.proofs.Fill.{fill_start, fill_step}
 use Rattle.broken.proofs.fresh.fresh_stores.Goals as goal
@@ -7,4 +6,4 @@ pub loop-p-init : goal.loop-p-init
 loop-p-init c = fill_start _ _ _ (search rules)
 
 pub loop-p-preserved : goal.loop-p-preserved
-loop-p-preserved c = fill_step c.loop-p.invariant c.loop-p-test.true c.fresh_store-s.ensures
+loop-p-preserved c = fill_step c.loop-p.invariant c.loop-p-test.true c.fresh_store.ensures

@@ -1,13 +1,6 @@
--- The loop tallies the links that are blank. Assumes nothing.
 use Rattle.std.proofs.Common.{rules}
-use Rattle.unbroken.proofs.Pass.{tally_start, tally_step, tally_all}
+use Rattle.broken.proofs.Words.{blank_is_equal}
 use Rattle.broken.proofs.held.blank_links.Goals as goal
 
-pub loop-j-init : goal.loop-j-init
-loop-j-init c = tally_start _ _
-
-pub loop-j-preserved : goal.loop-j-preserved
-loop-j-preserved c = tally_step c.loop-j.invariant c.loop-j-test.true c.both-blank.ensures
-
 pub returns : goal.returns
-returns c = tally_all 0 _ _ (search rules) c.loop-j.invariant c.loop-j-test.false
+returns c = record { blank = blank_is_equal _ (search rules) (search rules); long = search rules }

@@ -1,13 +1,9 @@
--- `checked_links` meets its contract: the places below the loop's index are filled. Assumes nothing.
-use Rattle.std.proofs.Common.{◌-◌}
-use Rattle.protocol.specs.Setup.{empty_machine}
-use Rattle.protocol.specs.Writes.{with_views}
+use Rattle.std.proofs.Common.{◌≡◌, ℕ, ◌<◌, get_or, length}
 use Rattle.protocol.specs.PreCheck.{checked_link}
-use Rattle.unbroken.proofs.Fill.{Filled}
 use Rattle.rules.proofs.pre_check.checked_links.Given as goal
 
 abbrev pub invariant-loop-j : goal.invariant-loop-j
-invariant-loop-j l = Filled (checked_link (with_views empty_machine l.views) l.w) 16 l.links l.j
-
-abbrev pub decreases-loop-j : goal.decreases-loop-j
-decreases-loop-j l = 16 - l.j
+invariant-loop-j l = record {
+  long : length l.links ≡ 16;
+  each : (k : ℕ) → k < l.j → get_or l.links k 0 ≡ checked_link l.m l.w k;
+}

@@ -1,10 +1,6 @@
--- `home_links` meets its contract: the places below the loop's index are filled. Assumes nothing.
-use mathlib.Core.Path.{refl}
-use Rattle.unbroken.proofs.Fill.{fill_start, fill_step}
+use Rattle.std.proofs.Common.{arith}
+use Rattle.rules.proofs.Below.{table_by_index}
 use Rattle.rules.proofs.send.home_links.Goals as goal
 
-pub loop-j-init : goal.loop-j-init
-loop-j-init c = fill_start _ _ _ refl
-
-pub loop-j-preserved : goal.loop-j-preserved
-loop-j-preserved c = fill_step c.loop-j.invariant c.loop-j-test.true c.home_link-link.ensures
+pub returns : goal.returns
+returns c = table_by_index _ _ 16 0 c.loop-j.invariant.long (λ k h. c.loop-j.invariant.each k (omega (arith, c.loop-j.auto)))

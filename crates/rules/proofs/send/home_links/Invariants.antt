@@ -1,11 +1,9 @@
--- `home_links` meets its contract: the places below the loop's index are filled. Assumes nothing.
-use Rattle.std.proofs.Common.{◌-◌}
+use Rattle.std.proofs.Common.{◌≡◌, ℕ, ◌<◌, get_or, length}
 use Rattle.protocol.specs.Send.{home_link}
-use Rattle.unbroken.proofs.Fill.{Filled}
 use Rattle.rules.proofs.send.home_links.Given as goal
 
 abbrev pub invariant-loop-j : goal.invariant-loop-j
-invariant-loop-j l = Filled (home_link l.causes l.home) 16 l.links l.j
-
-abbrev pub decreases-loop-j : goal.decreases-loop-j
-decreases-loop-j l = 16 - l.j
+invariant-loop-j l = record {
+  long : length l.links ≡ 16;
+  each : (k : ℕ) → k < l.j → get_or l.links k 0 ≡ home_link l.causes l.home k;
+}

@@ -1,6 +1,0 @@
--- The loop leaves at the first entry that breaks the machine. Assumes nothing.
-use Rattle.unbroken.proofs.Pass.{pass_end}
-use Rattle.broken.proofs.flight.entries_fine.Goals as goal
-
-pub returns : goal.returns
-returns c = pass_end c.loop-v.invariant c.loop-v-test.false

@@ -1,9 +1,0 @@
--- The loop tallies the 32 places that are within their rooms. Assumes nothing.
-use Rattle.unbroken.proofs.Pass.{tally_start, tally_step}
-use Rattle.broken.proofs.places.row_within.Goals as goal
-
-pub loop-v-init : goal.loop-v-init
-loop-v-init c = tally_start _ _
-
-pub loop-v-preserved : goal.loop-v-preserved
-loop-v-preserved c = tally_step c.loop-v.invariant c.loop-v-test.true c.both-fine.ensures

@@ -1,6 +1,0 @@
--- The loop joins each view that may have one. Assumes nothing.
-use Rattle.broken.proofs.Members.{join_step}
-use Rattle.broken.proofs.sets.ready.Goals as goal
-
-pub loop-v-preserved : goal.loop-v-preserved
-loop-v-preserved c = join_step c.loop-v.invariant c.loop-v-test.true c.joined_if-set.ensures
