@@ -1,4 +1,4 @@
--- Messages for a store of the first PReP, and what is told of one.
+-- Messages for a store of the 2004 protocol, and what is told of one.
 use Rattle.std.specs.Prelude.{ℕ, zero, suc, ◌+◌}
 use Rattle.activities.specs.Store.{empty_store}
 use Rattle.activities.specs.Receive.{receive}

@@ -1,5 +1,6 @@
 -- A call made turn after turn, on a machine after a book, and what is told of the turns: a sum.
-use Rattle.std.specs.Prelude.{ℕ, zero, suc, ◌+◌, ◌%◌, ◌^◌, List, replicate, slice_set}
+use Rattle.std.specs.Borrow.{Bor, MutBor}
+use Rattle.std.specs.Prelude.{◌≡◌, ℕ, zero, suc, ◌+◌, ◌%◌, ◌^◌, List, replicate, slice_set}
 use Rattle.protocol.specs.Words.{one}
 use Rattle.protocol.specs.Writes.{with_acks}
 use Rattle.protocol.specs.Broken.{broken_of}
@@ -47,3 +48,16 @@ drain_told m = (drain_of m).count + (drain_of m).state.made
 
 abbrev pub step_told : Step → State → ℕ
 step_told s m = (step_of m s).answer + (step_of m s).state.made
+
+-- Each call of a turn leaves and tells what `made` says; `post` is the call's own promise.
+abbrev pub Makes : {S : Type 0} → (MutBor S → ℕ → ℕ → MutBor S → Type 0) → (ℕ → S × ℕ → S × ℕ) → Type 0
+Makes {S} post made =
+    (p q : MutBor S) (left sum n : ℕ) → post p left n q → ◌≡◌ {A = S × ℕ} (q.now, summed sum n) (made left (p.now, sum))
+
+-- .. and tells what `told` says of the machine that it is lent.
+abbrev pub TellsOf : (Bor State → ℕ → Type 0) → (State → ℕ) → Type 0
+TellsOf post told = (p : Bor State) (n : ℕ) → post p n → n ≡ told p.now
+
+-- .. and tells what `told` says of the turns left.
+abbrev pub Tells : (ℕ → ℕ → Type 0) → (ℕ → ℕ) → Type 0
+Tells post told = (left n : ℕ) → post left n → n ≡ told left

@@ -1,43 +1,33 @@
-// What is written for a caller goes over the start of the buffer that it lends, and the bytes behind stay.
+//! What is written for a caller: bytes over the start of a buffer that it lends, and texts in the making.
 
 #![tactic(auto)]
 
-ghost use Rattle.std.specs.Prelude.{◌≡◌, ◌≤◌, min, length, take};
+pub mod text;
+
+ghost use Rattle.std.specs.Prelude.{◌≡◌, min, length, take};
 ghost use Rattle.protocol.specs.Lent.{lent, short_no, over};
+ghost use Rattle.protocol.specs.Refusal.{answer};
 
-fn least(a: usize, b: usize) -> usize
-    ensures { result ≡ min a b }
+use protocol::refusal::Refusal;
+
+/// The bytes go over the start of the buffer, or as many of them as it has room for; those behind stay.
+#[tactic(auto, unfolding(protocol::specs::Lent::over))]
+pub fn copy(to: &mut [u8], from: &[u8])
+    ensures { to.new ≡ over (take (min (length from.now) (length to.old)) from.now) to.old }
 {
-    if a < b {
-        return a;
-    }
-    b
+    let n = from.len().min(to.len());
+    to[..n].copy_from_slice(&from[..n]);
 }
 
-// The first n bytes of a slice go to the start of a lent buffer, or as many as it has room for.
-#[tactic(auto, using(crate::proofs::Copying::copied_all))]
-pub fn copy(to: &mut [u8], from: &[u8], n: usize)
-    requires { n ≤ length from.now }
-    ensures { to.new ≡ over (take (min n (length to.old)) from.now) to.old }
+/// All of the bytes, or `ShortBuffer` where they are more than the buffer has; nothing is written then.
+#[tactic(auto, unfolding(protocol::specs::Lent::short_no))]
+pub fn put(to: &mut [u8], bytes: &[u8]) -> Result<(), Refusal>
+    ensures number { answer result ≡ short_no bytes.now to.old }
+    ensures bytes { to.new ≡ lent (answer result) (over bytes.now to.old) to.old }
 {
-    let end = least(n, to.len());
-    let mut i: usize = 0;
-    while i < end {
-        to[i] = from[i];
-        i += 1;
+    if to.len() < bytes.len() {
+        return Err(Refusal::ShortBuffer);
     }
-}
-
-// All of them, or 14 where the buffer is too short.
-#[tactic(auto, using(crate::proofs::Copying::has_room, crate::proofs::Copying::too_short, crate::proofs::Copying::whole))]
-pub fn put(to: &mut [u8], from: &[u8], n: usize) -> u8
-    requires { n ≤ length from.now }
-    ensures number { result ≡ short_no (take n from.now) to.old }
-    ensures bytes { to.new ≡ lent result (over (take n from.now) to.old) to.old }
-{
-    if to.len() < n {
-        return 14;
-    }
-    copy(to, from, n);
-    0
+    copy(to, bytes);
+    Ok(())
 }

@@ -1,17 +1,12 @@
--- Text in the making, and what writing does to it.
-use Rattle.std.specs.Prelude.{ℕ, ◌+◌, List, [], ◌∷◌, set, replicate, ltb}
-use Rattle.protocol.specs.Words.{pick}
-use Rattle.listing.specs.declared.Text.{Text}
+-- The text of a listing or of a refusal in the making: 1,024 bytes at most.
+use Rattle.std.specs.Prelude.{ℕ, List, []}
+use Rattle.arrayvec.specs.ArrayVec.{ArrayVec}
+use Rattle.lending.specs.Text.{wrote as wrote_in}
 
--- nothing is written, and every byte is 0
-abbrev pub no_text : Text
-no_text = record { bytes = replicate 1024 0; len = 0 }
+-- nothing is written
+abbrev pub no_text : ArrayVec ℕ
+no_text = record { items = [] }
 
--- one byte more, where there is room
-unfoldable pub put_of : Text → ℕ → Text
-put_of t b = pick (ltb t.len 1024) (record { bytes = set t.bytes t.len b; len = t.len + 1 }) t
-
--- bytes, one after another
-abbrev pub wrote : Text → List ℕ → Text
-wrote t [] = t
-wrote t (b ∷ bs) = wrote (put_of t b) bs
+-- bytes, one after another, while there is room
+abbrev pub wrote : ArrayVec ℕ → List ℕ → ArrayVec ℕ
+wrote t bytes = record { items = wrote_in 1024 t.items bytes }

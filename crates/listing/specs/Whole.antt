@@ -1,13 +1,13 @@
 -- What makes the promise of the listing the text itself: every listing fits, and what is written reads back.
-use Rattle.std.specs.Prelude.{ℕ, ◌≤◌, ◌≡◌, List, length, take}
+use Rattle.std.specs.Prelude.{ℕ, ◌≤◌, ◌≡◌, List, length}
+use Rattle.arrayvec.specs.ArrayVec.{ArrayVec, array_vec_len}
 use Rattle.protocol.specs.declared.State.{State}
-use Rattle.listing.specs.declared.Text.{Text}
 use Rattle.listing.specs.Text.{no_text, wrote}
 use Rattle.protocol.specs.Listing.{refused_line, listing_of}
 
 -- the bytes that are written
-abbrev pub shown : Text → List ℕ
-shown t = take t.len t.bytes
+abbrev pub shown : ArrayVec ℕ → List ℕ
+shown t = t.items
 
 -- the listing of every machine value, after every run, is what the text shows
 abbrev pub ListingShown : Type 0
@@ -17,7 +17,7 @@ ListingShown = (m : State) (steps taken : ℕ) → shown (wrote no_text (listing
 abbrev pub ListingLength : Type 0
 ListingLength =
     (m : State) (steps taken : ℕ) →
-    ((wrote no_text (listing_of m steps taken)).len ≡ length (listing_of m steps taken)) × (length (listing_of m steps taken) ≤ 1024)
+    (array_vec_len (wrote no_text (listing_of m steps taken)) ≡ length (listing_of m steps taken)) × (length (listing_of m steps taken) ≤ 1024)
 
 abbrev pub RefusalShown : Type 0
 RefusalShown = (n : ℕ) → shown (wrote no_text (refused_line n)) ≡ refused_line n
@@ -25,8 +25,8 @@ RefusalShown = (n : ℕ) → shown (wrote no_text (refused_line n)) ≡ refused_
 -- no two results can both satisfy a promise
 abbrev pub OneListing : Type 0
 OneListing =
-    (m : State) (steps taken : ℕ) (r s : Text) →
+    (m : State) (steps taken : ℕ) (r s : ArrayVec ℕ) →
     r ≡ wrote no_text (listing_of m steps taken) → s ≡ wrote no_text (listing_of m steps taken) → r ≡ s
 
 abbrev pub OneRefusal : Type 0
-OneRefusal = (n : ℕ) (r s : Text) → r ≡ wrote no_text (refused_line n) → s ≡ wrote no_text (refused_line n) → r ≡ s
+OneRefusal = (n : ℕ) (r s : ArrayVec ℕ) → r ≡ wrote no_text (refused_line n) → s ≡ wrote no_text (refused_line n) → r ≡ s

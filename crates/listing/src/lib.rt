@@ -1,209 +1,121 @@
-// What the recorder prints of a run, as text: the listing, or the refusal.
+//! What the recorder prints of a run, as text: the listing, or the refusal.
 
 #![tactic(auto)]
 
-ghost use Rattle.std.specs.Prelude.{◌≡◌, ◌+◌, ◌<◌, get_or};
-ghost use Rattle.protocol.specs.Slots.{no_store};
-ghost use Rattle.listing.specs.Text.{no_text, put_of, wrote};
+ghost use Rattle.std.specs.Prelude.{◌≡◌, ◌++◌, ◌∷◌, [], ◌<◌};
+ghost use Rattle.lending.specs.Text.{wrote};
 ghost use Rattle.listing.specs.Whole.{ListingShown, ListingLength, RefusalShown, OneListing, OneRefusal};
-ghost use Rattle.protocol.specs.Listing.{large, decimal, refused_line, counts_line, link_text, place_text, view_line, line_of, lines_to, listing_of};
+ghost use Rattle.protocol.specs.Slots.{lasting_viewlink};
+ghost use Rattle.protocol.specs.Listing.{decimal, refused_line, counts_line, link_text, place_text, view_line, lines_to, listing_of};
 
-use protocol::{State, Store};
+use arrayvec::ArrayVec;
+use lending::text::{append, append_number};
+use protocol::{State, View};
 
-// Bytes, and how many of them are written. No listing is longer than 990.
-#[derive(Clone, Copy)]
-pub struct Text {
-    pub bytes: [u8; 1024],
-    pub len: usize,
-}
+/// The bytes of a listing, of which there are 990 at most, or of a refusal.
+pub type Text = ArrayVec<u8, 1024>;
 
-fn blank() -> Text
-    ensures { result ≡ no_text }
+/// A number and the space behind it.
+#[tactic(auto, unfolding(lending::specs::Text::wrote), using(lending::proofs::Appending::wrote_append))]
+fn column(text: &mut Text, n: u16)
+    ensures { text.new.items ≡ wrote 1024 text.old.items (decimal n ++ (32 ∷ [])) }
 {
-    Text {
-        bytes: [0; 1024],
-        len: 0,
+    append_number(text, n);
+    append(text, b" ");
+}
+
+/// Stores, actors, interactions, steps, steps taken.
+#[tactic(auto, unfolding(lending::specs::Text::wrote, protocol::specs::Listing::counts_line), using(lending::proofs::Appending::wrote_append))]
+fn counts(text: &mut Text, m: &State, steps: u16, taken: u16)
+    ensures { text.new.items ≡ wrote 1024 text.old.items (counts_line m.now.stores m.now.actors m.now.made steps taken) }
+{
+    column(text, u16::from(m.stores));
+    column(text, u16::from(m.actors));
+    column(text, u16::from(m.made));
+    column(text, steps);
+    append_number(text, taken);
+    append(text, b"\n");
+}
+
+/// A viewlink, or `-` if none: 0 for none, and p + 1 for store p.
+#[tactic(auto, unfolding(protocol::specs::Listing::link_text), using(unbroken::proofs::Tests::tests))]
+fn link(text: &mut Text, held: u8)
+    ensures { text.new.items ≡ wrote 1024 text.old.items (link_text held) }
+{
+    if held == 0 {
+        append(text, b"-");
+    } else {
+        append_number(text, u16::from(held - 1));
     }
 }
 
-impl Text {
-    // One byte more, where there is room.
-    #[tactic(auto, unfolding(crate::specs::Text::put_of), using(unbroken::proofs::Tests::tests))]
-    fn put(self, b: u8) -> Text
-        ensures { result ≡ put_of self b }
-    {
-        let mut t = self;
-        let at = t.len;
-        if 1024 <= at {
-            return t;
-        }
-        t.bytes[at] = b;
-        t.len = at + 1;
-        t
-    }
-
-    fn digit(self, d: u16) -> Text
-        requires { d < 10 }
-        ensures { result ≡ put_of self (48 + d) }
-    {
-        self.put(48 + d as u8)
-    }
-
-    // Four digits or five.
-    #[tactic(auto, unfolding(protocol::specs::Listing::large), using(unbroken::proofs::Tests::tests))]
-    fn large(self, n: u16) -> Text
-        ensures { result ≡ wrote self (large n) }
-    {
-        if n < 10000 {
-            return self
-                .digit(n / 1000)
-                .digit(n / 100 % 10)
-                .digit(n / 10 % 10)
-                .digit(n % 10);
-        }
-        self.digit(n / 10000)
-            .digit(n / 1000 % 10)
-            .digit(n / 100 % 10)
-            .digit(n / 10 % 10)
-            .digit(n % 10)
-    }
-
-    #[tactic(auto, unfolding(protocol::specs::Listing::decimal), using(unbroken::proofs::Tests::tests))]
-    fn number(self, n: u16) -> Text
-        ensures { result ≡ wrote self (decimal n) }
-    {
-        if n < 10 {
-            return self.digit(n);
-        }
-        if n < 100 {
-            return self.digit(n / 10).digit(n % 10);
-        }
-        if n < 1000 {
-            return self.digit(n / 100).digit(n / 10 % 10).digit(n % 10);
-        }
-        self.large(n)
-    }
-
-    fn small(self, n: u8) -> Text
-        ensures { result ≡ wrote self (decimal n) }
-    {
-        self.number(n as u16)
-    }
-
-    // Stores, actors, interactions, steps, steps taken.
-    #[tactic(auto, unfolding(protocol::specs::Listing::counts_line), using(crate::proofs::Writing::wrote_append))]
-    fn counts(self, stores: u8, actors: u8, made: u8, steps: u16, taken: u16) -> Text
-        ensures { result ≡ wrote self (counts_line stores actors made steps taken) }
-    {
-        let begun = self
-            .small(stores)
-            .put(32)
-            .small(actors)
-            .put(32)
-            .small(made)
-            .put(32);
-        begun.number(steps).put(32).number(taken).put(10)
-    }
-
-    // The viewlink, or `-` if none: 0 for none, and p + 1 for store p.
-    #[tactic(auto, unfolding(protocol::specs::Listing::link_text), using(unbroken::proofs::Tests::tests))]
-    fn link(self, held: u8) -> Text
-        ensures { result ≡ wrote self (link_text held) }
-    {
-        if held == 0 {
-            return self.put(45);
-        }
-        self.small(held - 1)
-    }
-
-    // In phase 0 both last columns are `-`.
-    #[tactic(auto, unfolding(protocol::specs::Listing::place_text), using(crate::proofs::Writing::wrote_append, unbroken::proofs::Tests::tests))]
-    fn place(self, phase: u8, store: u8, held: u8) -> Text
-        ensures { result ≡ wrote self (place_text phase store held) }
-    {
-        if phase == 0 {
-            return self.put(45).put(32).put(45).put(10);
-        }
-        self.small(store).put(32).link(held).put(10)
-    }
-
-    #[tactic(auto, unfolding(protocol::specs::Listing::line_of), using(crate::proofs::Writing::wrote_append))]
-    fn line(self, key: u8, role: u8, phase: u8, store: u8, held: u8) -> Text
-        ensures { result ≡ wrote self (line_of key role phase store held) }
-    {
-        let begun = self.small(key).put(32).small(role).put(32);
-        begun.small(phase).put(32).place(phase, store, held)
-    }
-
-    // A line for a view that is made, nothing for another.
-    #[tactic(auto, unfolding(protocol::specs::Listing::view_line), using(unbroken::proofs::Tests::tests))]
-    fn view(self, m: State, v: u8) -> Text
-        requires { v < 32 }
-        ensures { result ≡ wrote self (view_line m v) }
-    {
-        if m.made as u16 * 2 <= v as u16 {
-            return self;
-        }
-        let w = m.views[v as usize];
-        let shelves = m.shelves;
-        self.line(v / 2, v % 2, w.phase, w.store, kept(shelves, w.store, v))
-    }
-
-    // Key rising, sender first.
-    #[tactic(auto, using(crate::proofs::Writing::listed_end, crate::proofs::Writing::listed_more, crate::proofs::Writing::listed_start))]
-    fn views(self, m: State) -> Text
-        ensures { result ≡ wrote self (lines_to m 32) }
-    {
-        let mut t = self;
-        let mut v: u8 = 0;
-        while v < 32 {
-            t = t.view(m, v);
-            v += 1;
-        }
-        t
-    }
-}
-
-// The viewlink that a store's checkpointed state holds for a view; a store that isn't there holds nothing.
-fn kept(shelves: [Store; 8], store: u8, v: u8) -> u8
+/// The viewlink that a store's checkpointed state holds for a view; a store that isn't there holds nothing.
+fn kept(m: &State, store: u8, v: usize) -> u8
     requires { v < 32 }
-    ensures { result ≡ get_or (get_or shelves store no_store).keptlinks v 0 }
+    ensures { result ≡ lasting_viewlink m.now store v }
 {
-    if 8 <= store {
-        return 0;
+    match m.shelves.get(usize::from(store)) {
+        Some(shelf) => shelf.keptlinks[v],
+        None => 0,
     }
-    let s = shelves[store as usize];
-    s.keptlinks[v as usize]
 }
 
-// `refused N`.
-#[tactic(auto, unfolding(protocol::specs::Listing::refused_line), using(crate::proofs::Writing::wrote_append))]
-pub fn refused(n: u8) -> Text
-    ensures { result ≡ wrote no_text (refused_line n) }
+/// A view's current store, and the viewlink that the store holds; in phase 0 both are `-`.
+#[tactic(auto, unfolding(lending::specs::Text::wrote, protocol::specs::Listing::place_text), using(lending::proofs::Appending::wrote_append, unbroken::proofs::Tests::tests))]
+fn place(text: &mut Text, w: &View, held: u8)
+    ensures { text.new.items ≡ wrote 1024 text.old.items (place_text w.now.phase w.now.store held) }
 {
-    let begun = blank()
-        .put(114)
-        .put(101)
-        .put(102)
-        .put(117)
-        .put(115)
-        .put(101)
-        .put(100)
-        .put(32);
-    begun.small(n).put(10)
+    if w.phase == 0 {
+        append(text, b"- -\n");
+    } else {
+        column(text, u16::from(w.store));
+        link(text, held);
+        append(text, b"\n");
+    }
 }
 
-// The listing of a machine after a run of so many steps, of which so many were taken.
-#[tactic(auto, unfolding(protocol::specs::Listing::listing_of), using(crate::proofs::Writing::wrote_append))]
-pub fn listing(m: State, steps: u16, taken: u16) -> Text
-    ensures { result ≡ wrote no_text (listing_of m steps taken) }
+/// The line of a view that is made, nothing for another: key, role, phase, current store, viewlink.
+#[tactic(auto, unfolding(lending::specs::Text::wrote, protocol::specs::Listing::view_line, protocol::specs::Listing::line_of), using(lending::proofs::Appending::wrote_append, unbroken::proofs::Tests::tests))]
+fn line(text: &mut Text, m: &State, v: u8)
+    requires { v < 32 }
+    ensures { text.new.items ≡ wrote 1024 text.old.items (view_line m.now v) }
 {
-    blank()
-        .counts(m.stores, m.actors, m.made, steps, taken)
-        .views(m)
+    if u16::from(m.made) * 2 <= u16::from(v) {
+        return;
+    }
+    let w = &m.views[usize::from(v)];
+    column(text, u16::from(v / 2));
+    column(text, u16::from(v % 2));
+    column(text, u16::from(w.phase));
+    place(text, w, kept(m, w.store, usize::from(v)));
 }
 
-// The laws of the listing: each fits its text, and what is written is the listing.
+/// `refused N`, a line of its own, for a number that needn't be a `Refusal`'s.
+#[tactic(auto, using(crate::proofs::Lines::refused_parts))]
+pub fn refused(number: u8) -> Text
+    ensures { result.items ≡ refused_line number }
+{
+    let mut text = Text::new();
+    append(&mut text, b"refused ");
+    append_number(&mut text, u16::from(number));
+    append(&mut text, b"\n");
+    text
+}
+
+/// The listing of a machine, broken or not, after a run of so many steps, of which so many were taken.
+#[tactic(auto, using(crate::proofs::Lines::lines_all, crate::proofs::Lines::lines_more, crate::proofs::Lines::lines_none))]
+pub fn listing(m: &State, steps: u16, taken: u16) -> Text
+    ensures { result.items ≡ listing_of m.now steps taken }
+{
+    let mut text = Text::new();
+    counts(&mut text, m, steps, taken);
+    for v in 0..32 {
+        line(&mut text, m, v);
+    }
+    text
+}
+
+/// The laws of the listing: each fits its text, and what is written is the listing.
 #[tactic(auto, using(crate::proofs::Whole::listing_shown, crate::proofs::Whole::listing_length, crate::proofs::Whole::refusal_shown, crate::proofs::Whole::one_listing, crate::proofs::Whole::one_refusal))]
 pub fn laws()
     ensures shown { ListingShown }

@@ -1,154 +1,127 @@
-// Rule one, and what rule two adds, over the records that a walk met.
-ghost use Rattle.std.specs.Prelude.{◌≡◌, ◌&&◌, ltb, ◌<◌};
-ghost use Rattle.protocol.specs.Words.{pick, bit, one};
-ghost use Rattle.pairing.specs.Pair.{is_a, how_many, has_bundle, all_have, is_cause, is_direct, all_direct, sender_of, rule_one, two_adds, rule_two};
+// Rule one, and what rule two adds, over the sender records of the keys that a walk met.
+ghost use Rattle.std.specs.Prelude.{◌≡◌, ◌≤◌, find, length, reverse};
+ghost use Rattle.std.specs.List.{list_all};
+ghost use Rattle.pairing.specs.Pair.{all_direct, all_have, has_bundle, is_a, how_many, is_direct, record_of, rule_one, rule_two, sender_of, two_adds, bundle_of};
+ghost use Rattle.walk.specs.Told.{padded};
+ghost use Rattle.pair_rule.specs.Told.{kind_number, records_met};
 
 use crate::kinds;
-use protocol::Contents;
+use crate::kinds::{Kind, bundle, is_part};
+use protocol::sets::is_in;
+use protocol::{Contents, State};
 
-fn both(a: bool, b: bool) -> bool
-    ensures { result ≡ a && b }
+const NOTHING: Contents = Contents {
+    asserter: 0,
+    causes: 0,
+    word: 0,
+};
+
+/// An interaction's sender record, in the store where it is settled; nothing where there is none.
+pub(crate) fn record(m: &State, key: u8) -> Contents
+    ensures { result ≡ record_of m.now key }
 {
-    if a {
-        return b;
-    }
-    false
+    let v = key as usize * 2;
+    let store = m.views.get(v).map_or(0, |view| view.store) as usize;
+    *m.contents.get(store * 32 + v).unwrap_or(&NOTHING)
 }
 
-fn flag(b: bool) -> u8
-    ensures { result ≡ one b }
+fn is_a(m: &State, key: u8, kind: Kind) -> bool
+    ensures { result ≡ is_a (kind_number kind) (record_of m.now key) }
 {
-    if b {
-        return 1;
-    }
-    0
+    kinds::is_a(record(m, key), kind)
 }
 
-// How many of a kind were met.
-#[tactic(auto, using(crate::proofs::Counting::count_start, crate::proofs::Counting::count_room, crate::proofs::Counting::count_step, crate::proofs::Counting::count_end))]
-fn how_many(met: [Contents; 16], kind: u32) -> u8
-    ensures { result ≡ how_many kind met }
+/// How many of a kind were met.
+fn how_many(m: &State, keys: &[u8], kind: Kind) -> usize
+    requires { length keys.now ≤ 16 }
+    ensures { result ≡ how_many (kind_number kind) (records_met m.now keys.now) }
 {
-    let mut n: u8 = 0;
-    let mut i: usize = 0;
-    while i < 16 {
-        n += flag(kinds::is_a(met[i], kind));
-        i += 1;
-    }
-    n
+    keys.iter().filter(|&&key| is_a(m, key, kind)).count()
 }
 
-fn has_bundle(c: Contents, bundle: u32) -> bool
-    ensures { result ≡ has_bundle bundle c }
+fn has_bundle(m: &State, key: u8, number: u32) -> bool
+    ensures { result ≡ has_bundle number (record_of m.now key) }
 {
-    if kinds::is_part(c) {
-        return kinds::bundle(c) == bundle;
-    }
-    true
+    let c = record(m, key);
+    !is_part(c) || bundle(c) == number
 }
 
-// All of both kinds have the forecast's bundle number.
-#[tactic(auto, unfolding(protocol::specs::Words::all_below))]
-fn all_have(met: [Contents; 16], bundle: u32) -> bool
-    ensures { result ≡ all_have bundle met }
+// Apart from `all_have`, as `each_direct` from `all_direct`: tried in one function, and the proof didn't close.
+fn each_has(m: &State, keys: &[u8], number: u32) -> bool
+    ensures { result ≡ list_all (λ k. has_bundle number (record_of m.now k)) keys.now }
 {
-    let mut all = true;
-    let mut i: usize = 0;
-    while i < 16 {
-        all = both(all, has_bundle(met[i], bundle));
-        i += 1;
-    }
-    all
+    keys.iter().all(|&key| has_bundle(m, key, number))
+}
+
+/// All of both kinds have the forecast's bundle number.
+fn all_have(m: &State, keys: &[u8], number: u32) -> bool
+    requires { length keys.now ≤ 16 }
+    ensures { result ≡ all_have number (records_met m.now keys.now) }
+{
+    each_has(m, keys, number)
 }
 
 #[tactic(auto, unfolding(pairing::specs::Pair::rule_one))]
-pub(crate) fn one(met: [Contents; 16], bundle: u32) -> bool
-    ensures { result ≡ rule_one met bundle }
+pub(crate) fn one(m: &State, keys: &[u8], forecast: Contents) -> bool
+    requires { length keys.now ≤ 16 }
+    ensures { result ≡ rule_one (records_met m.now keys.now) (bundle_of forecast.word) }
 {
-    let weights = 1 <= how_many(met, 1);
-    let scalers = 1 <= how_many(met, 2);
-    both(both(weights, scalers), all_have(met, bundle))
+    1 <= how_many(m, keys, Kind::Weights)
+        && 1 <= how_many(m, keys, Kind::Scaler)
+        && all_have(m, keys, bundle(forecast))
 }
 
-fn has(set: u16, j: usize) -> bool
-    requires { j < 16 }
-    ensures { result ≡ bit set j }
+fn is_direct(m: &State, key: u8, causes: u16) -> bool
+    ensures { result ≡ is_direct causes key (record_of m.now key) }
 {
-    (set >> j) % 2 == 1
+    !is_part(record(m, key)) || (key < 16 && is_in(u32::from(causes), key as usize))
 }
 
-fn is_cause(causes: u16, k: usize) -> bool
-    ensures { result ≡ is_cause causes k }
+fn each_direct(m: &State, keys: &[u8], causes: u16) -> bool
+    ensures { result ≡ list_all (λ k. is_direct causes k (record_of m.now k)) keys.now }
 {
-    if k < 16 {
-        return has(causes, k);
-    }
-    false
+    keys.iter().all(|&key| is_direct(m, key, causes))
 }
 
-fn is_direct(c: Contents, key: u8, causes: u16) -> bool
-    ensures { result ≡ is_direct causes key c }
+/// All of both kinds are direct causes of the forecast.
+fn all_direct(m: &State, keys: &[u8], causes: u16) -> bool
+    requires { length keys.now ≤ 16 }
+    ensures { result ≡ all_direct causes (padded keys.now) (records_met m.now keys.now) }
 {
-    if kinds::is_part(c) {
-        return is_cause(causes, key as usize);
-    }
-    true
+    each_direct(m, keys, causes)
 }
 
-// All of both kinds are direct causes of the forecast.
-#[tactic(auto, unfolding(protocol::specs::Words::all_below))]
-fn all_direct(met: [Contents; 16], keys: [u8; 16], causes: u16) -> bool
-    ensures { result ≡ all_direct causes keys met }
+/// The last of a kind.
+fn last(m: &State, keys: &[u8], kind: Kind) -> Option<u8>
+    ensures { result ≡ find (λ k. is_a (kind_number kind) (record_of m.now k)) (reverse keys.now) }
 {
-    let mut all = true;
-    let mut i: usize = 0;
-    while i < 16 {
-        all = both(all, is_direct(met[i], keys[i], causes));
-        i += 1;
-    }
-    all
+    keys.iter().rev().copied().find(|&key| is_a(m, key, kind))
 }
 
-fn later(c: Contents, kind: u32, before: u8) -> u8
-    ensures { result ≡ pick (is_a kind c) c.asserter before }
+/// The sender of the last of a kind, 0 where there is none.
+fn sender(m: &State, keys: &[u8], kind: Kind) -> u8
+    requires { length keys.now ≤ 16 }
+    ensures { result ≡ sender_of (kind_number kind) (records_met m.now keys.now) }
 {
-    if kinds::is_a(c, kind) {
-        return c.asserter;
-    }
-    before
+    last(m, keys, kind).map_or(0, |key| record(m, key).asserter)
 }
 
-// The sender of the one of a kind.
-#[tactic(auto, using(crate::proofs::Counting::last_start, crate::proofs::Counting::last_step, crate::proofs::Counting::last_end))]
-fn sender(met: [Contents; 16], kind: u32) -> u8
-    ensures { result ≡ sender_of kind met }
-{
-    let mut last: u8 = 0;
-    let mut i: usize = 0;
-    while i < 16 {
-        last = later(met[i], kind, last);
-        i += 1;
-    }
-    last
-}
-
-// What rule two adds: exactly one of each, both direct causes, both from the same sender.
+/// What rule two adds: exactly one of each, both direct causes, both from the same sender.
 #[tactic(auto, unfolding(pairing::specs::Pair::two_adds))]
-fn adds(met: [Contents; 16], keys: [u8; 16], causes: u16) -> bool
-    ensures { result ≡ two_adds met keys causes }
+fn adds(m: &State, keys: &[u8], forecast: Contents) -> bool
+    requires { length keys.now ≤ 16 }
+    ensures { result ≡ two_adds (records_met m.now keys.now) (padded keys.now) forecast.causes }
 {
-    let weights = how_many(met, 1) == 1;
-    let scaler = how_many(met, 2) == 1;
-    let same = sender(met, 1) == sender(met, 2);
-    both(
-        both(both(weights, scaler), all_direct(met, keys, causes)),
-        same,
-    )
+    how_many(m, keys, Kind::Weights) == 1
+        && how_many(m, keys, Kind::Scaler) == 1
+        && all_direct(m, keys, forecast.causes)
+        && sender(m, keys, Kind::Weights) == sender(m, keys, Kind::Scaler)
 }
 
 #[tactic(auto, unfolding(pairing::specs::Pair::rule_two))]
-pub(crate) fn two(met: [Contents; 16], bundle: u32, keys: [u8; 16], causes: u16) -> bool
-    ensures { result ≡ rule_two met bundle keys causes }
+pub(crate) fn two(m: &State, keys: &[u8], forecast: Contents) -> bool
+    requires { length keys.now ≤ 16 }
+    ensures { result ≡ rule_two (records_met m.now keys.now) (bundle_of forecast.word) (padded keys.now) forecast.causes }
 {
-    both(one(met, bundle), adds(met, keys, causes))
+    one(m, keys, forecast) && adds(m, keys, forecast)
 }

@@ -13,9 +13,8 @@ use Rattle.protocol.specs.Words.{pick}
 use Rattle.unbroken.proofs.Laws.Tests.{by_test}
 use Rattle.protocol.specs.declared.State.{State}
 use Rattle.protocol.specs.declared.Step.{Step}
-use Rattle.protocol.specs.declared.Ran.{Ran}
+use Rattle.protocol.specs.Run.{Ran, answers, steps_read, legal_setup, fresh_of, book_no, refused_run, full_run, run_of, filled, buffer_of}
 use Rattle.protocol.specs.Book.{well_formed, setup_read, start_of, count_of, valid_from}
-use Rattle.protocol.specs.Run.{answers, steps_read, legal_setup, fresh_of, book_no, refused_run, full_run, run_of, filled, buffer_of}
 use Rattle.reads.proofs.Formed.{Accepted, accepted, count_steps, answers_length}
 use Rattle.protocol.specs.Lent.{first, over}
 use Rattle.tautlichen.specs.Calls.{history}

@@ -1,19 +1,15 @@
 -- The calls of the library, each a function of a book as the machine's history: its number, 0 where it is done, and what it
 -- writes. Every lent value is written where the number is 0, and stays where it is not.
 use Rattle.std.specs.Prelude.{ℕ, List, length}
-use Rattle.protocol.specs.declared.Ran.{Ran}
-use Rattle.protocol.specs.declared.Drained.{Drained}
-use Rattle.protocol.specs.Run.{run_of}
-use Rattle.protocol.specs.Drain.{drain_of}
-use Rattle.protocol.specs.declared.Walked.{Walked}
-use Rattle.protocol.specs.Walk.{walk_of}
+use Rattle.protocol.specs.Run.{Ran, run_of}
+use Rattle.protocol.specs.Drain.{Drained, drain_of}
+use Rattle.protocol.specs.Walk.{Walked, walk_of}
 use Rattle.reaches.specs.Reaches.{keys_of}
 use Rattle.protocol.specs.Listing.{listing_of}
 use Rattle.protocol.specs.Provn.{provn_text, provn_no}
 use Rattle.protocol.specs.Lent.{first, short_no}
 use Rattle.protocol.specs.Words.{pick}
-use Rattle.pairing.specs.declared.Checked.{Checked}
-use Rattle.pairing.specs.Pair.{is_rule, check_of}
+use Rattle.pairing.specs.Pair.{Checked, is_rule, check_of}
 
 -- the listing of a run
 abbrev pub ran_listing : Ran → List ℕ

@@ -1,4 +1,4 @@
-// The calls of tautlichen for C, C++ and Rust, as a static library: each is the library's own, with its clauses.
+//! The calls of tautlichen for C, C++ and Rust, as a static library: each is the library's own, with its clauses.
 #![tactic(auto)]
 
 ghost use Rattle.std.specs.Prelude.{◌≡◌, length};
@@ -8,7 +8,7 @@ ghost use Rattle.reaches.specs.Reaches.{keys_of};
 ghost use Rattle.protocol.specs.Lent.{lent, over};
 ghost use Rattle.tautlichen.specs.Calls.{list_text, list_no, drain_after, drain_text, drain_no, walk_after, walk_no, lineage_text, lineage_no, pair_after, pair_no};
 
-// Runs a book, and writes each step's number into the answers. Refused with 10, 11, 12.
+/// Runs a book, and writes each step's number into the answers. Refused with 10, 11, 12.
 #[unsafe(no_mangle)]
 pub extern "C" fn tautlichen_run(book: &[u8], answers: &mut [u8]) -> u8
     ensures number { result ≡ (run_of book.now (length answers.old)).answer }
@@ -17,7 +17,7 @@ pub extern "C" fn tautlichen_run(book: &[u8], answers: &mut [u8]) -> u8
     tautlichen::tautlichen_run(book, answers)
 }
 
-// The same, with the listing in `text` and its length in `len`. Refused with 10, 11, 12, then 14.
+/// The same, with the listing in `text` and its length in `len`. Refused with 10, 11, 12, then 14.
 #[unsafe(no_mangle)]
 pub extern "C" fn tautlichen_list(
     book: &[u8],
@@ -33,8 +33,8 @@ pub extern "C" fn tautlichen_list(
     tautlichen::tautlichen_list(book, answers, text, len)
 }
 
-// Drains the machine after a book: the count of steps, and the listing after it with its length. Refused with 10, 11, then 5,
-// then 14.
+/// Drains the machine after a book: the count of steps, and the listing after it with its length. Refused with 10, 11, then 5,
+/// then 14.
 #[unsafe(no_mangle)]
 pub extern "C" fn tautlichen_drain(
     book: &[u8],
@@ -50,7 +50,7 @@ pub extern "C" fn tautlichen_drain(
     tautlichen::tautlichen_drain(book, text, len, count)
 }
 
-// Walks back from a key in the machine after a book: the keys met, and how many. Refused with 10, 11, then 2, 13, then 14.
+/// Walks back from a key in the machine after a book: the keys met, and how many. Refused with 10, 11, then 2, 13, then 14.
 #[unsafe(no_mangle)]
 pub extern "C" fn tautlichen_walk(
     book: &[u8],
@@ -67,8 +67,8 @@ pub extern "C" fn tautlichen_walk(
     tautlichen::tautlichen_walk(book, key, keys, count, lookups)
 }
 
-// Writes the walk of a key in the machine after a book as a PROV-N document, and its length. Refused with 10, 11, then 2, 13,
-// then 14.
+/// Writes the walk of a key in the machine after a book as a PROV-N document, and its length. Refused with 10, 11, then 2, 13,
+/// then 14.
 #[unsafe(no_mangle)]
 pub extern "C" fn tautlichen_lineage(book: &[u8], key: u8, text: &mut [u8], len: &mut u16) -> u8
     ensures number { result ≡ lineage_no book.now key text.old }
@@ -78,8 +78,8 @@ pub extern "C" fn tautlichen_lineage(book: &[u8], key: u8, text: &mut [u8], len:
     tautlichen::tautlichen_lineage(book, key, text, len)
 }
 
-// Checks the pair of a forecast by rule 1 or 2 in the machine after a book: 1 where it passes, else 0. Refused with 19, 10, 11,
-// then 2, 13, 20.
+/// Checks the pair of a forecast by rule 1 or 2 in the machine after a book: 1 where it passes, else 0. Refused with 19, 10, 11,
+/// then 2, 13, 20.
 #[unsafe(no_mangle)]
 pub extern "C" fn tautlichen_pair(book: &[u8], rule: u8, key: u8, passes: &mut u8) -> u8
     ensures number { result ≡ pair_no book.now rule key }

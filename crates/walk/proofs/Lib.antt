@@ -1,2 +1,3 @@
-pub mod Going
-pub mod Taken
+pub mod Marks
+pub mod Onward
+pub mod Told

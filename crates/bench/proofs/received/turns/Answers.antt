@@ -1,12 +1,7 @@
--- The loop makes the turns of the definition on one store; the measure is the turns left. Assumes nothing.
-use Rattle.bench.specs.Turns.{summed}
-use Rattle.std.proofs.Common.{ap, ◌∙◌}
-use Rattle.bench.proofs.Turning.{turn_made}
-use Rattle.bench.proofs.Receiving.{told_of}
+-- Each call tells of its message. Assumes nothing.
+use Rattle.std.proofs.Common.{rules}
+use Rattle.bench.specs.Received.{negotiation, receive_told}
 use Rattle.bench.proofs.received.turns.Goals as goal
 
-pub loop-left-preserved : goal.loop-left-preserved
-loop-left-preserved c =
-    let at-loop = c.loop-left in
-    turn_made at-loop.invariant c.loop-left-test.true
-    (c.wrapping_add_u32-sum.ensures.value ∙ ap (summed at-loop.sum) (c.told.ensures ∙ told_of c.args.s c.negotiation.ensures c.receive-r.ensures))
+pub returns : goal.returns
+returns c = c.calls.ensures (λ left. receive_told (negotiation c.args.session left) c.args.s) (λ left n e. search rules)
