@@ -1,4 +1,4 @@
--- Document 003's function complete: both rows have all of the first four, and sf.nm - 4 = |apl|.
+-- complete[ai]: both rows have all of the first four, and sf.nm - 4 = |apl|.
 use Rattle.std.specs.Prelude.{◌+◌, Bool, ◌&&◌, eqb}
 use Rattle.activities.specs.Side.{additions}
 use Rattle.activities.specs.declared.Side.{Side}

@@ -1,4 +1,4 @@
--- An activity's row in one table, client_T[ai] or service_T[ai], and what a message puts into it (Figures 4 and 6).
+-- An activity's row in one table, client_T[ai] or service_T[ai], and what a message puts into it.
 use Rattle.std.specs.Prelude.{ℕ, ◌+◌, min, Bool, true, false, cond, List, leb, set, take, replicate}
 use Rattle.activities.specs.declared.Said.{Said}
 use Rattle.activities.specs.declared.Said.TheVariants.{Negotiation, Invocation, Result, Finished, Additional}
@@ -8,7 +8,7 @@ use Rattle.activities.specs.declared.Announced.{Announced}
 use Rattle.activities.specs.declared.Added.{Added}
 use Rattle.activities.specs.declared.Side.{Side}
 
--- Figure 4, the initial state: ai → ∅.
+-- The initial state: ai → ∅.
 abbrev pub not_transmitted : Transmitted
 not_transmitted = record { held = false; extra = 0; word = 0 }
 
@@ -30,7 +30,7 @@ additions l = min l.count 8
 abbrev pub extras_of : Side → List ℕ
 extras_of x = take (additions x.additional) x.additional.extras
 
--- A message of a kind goes where nothing of the kind is: a second one changes nothing (document 02).
+-- A message of a kind goes where nothing of the kind is: a second one changes nothing.
 abbrev pub negotiated : Negotiated → Negotiated → Negotiated
 negotiated there said = cond there.held there said
 
@@ -44,7 +44,7 @@ announced there said = cond there.held there said
 abbrev pub added : Added → ℕ → Added
 added l extra = record { count = l.count + 1; extras = set l.extras l.count extra }
 
--- Figure 6, table update: table_T[ai].rec_neg := rec_neg(..), and so for each kind; the other fields stay
+-- table update: table_T[ai].rec_neg := rec_neg(..), and so for each kind; the other fields stay
 unfoldable pub side_taken : Side → Said → Side
 side_taken x (Negotiation list accepted extra) =
     record {
@@ -87,7 +87,7 @@ side_taken x (Additional extra) =
       additional = added x.additional extra;
     }
 
--- document 02: no room for a side's ninth additional message
+-- no room for a side's ninth additional message
 abbrev pub full : Side → Said → Bool
 full x (Negotiation list accepted extra) = false
 full x (Invocation extra word) = false

@@ -1,4 +1,4 @@
--- A provenance store: the activities that it holds, each with its two rows (Figure 4).
+-- A provenance store: the activities that it holds, each with its two rows.
 use Rattle.std.specs.Prelude.{ℕ, suc, ◌+◌, min, cond, List, [], ◌∷◌, ltb, get_or, set, take, replicate}
 use Rattle.activities.specs.Activity.{same}
 use Rattle.activities.specs.Side.{empty_side}
@@ -13,7 +13,7 @@ fresh a = record { activity = a; client = empty_side; service = empty_side }
 abbrev pub blank : Activity
 blank = record { session = 0; nonce = 0; thread = 0; client = 0; service = 0 }
 
--- Figure 4, the initial state: empty tables.
+-- The initial state: empty tables.
 abbrev pub empty_store : Store
 empty_store = record { used = 0; exchanges = replicate 16 (fresh blank) }
 

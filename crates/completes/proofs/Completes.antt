@@ -21,7 +21,7 @@ use Rattle.activities.specs.declared.Message.{Message}
 use Rattle.activities.specs.declared.Side.{Side}
 use Rattle.activities.specs.declared.Exchange.{Exchange}
 use Rattle.activities.specs.declared.Store.{Store}
-use Rattle.activities.specs.declared.Received.{Received}
+use Rattle.activities.specs.Outcome.{Outcome}
 use Rattle.completes.specs.Order.{gather, nothing}
 use Rattle.completes.specs.Sends.{messages_of, said_one, said_by, extras, SendsAll, NoneRefused, Sends}
 use Rattle.completes.specs.Promises.{Sized, CompletesAtLast}
@@ -165,7 +165,7 @@ finished_cut a before m rest h e =
     let now : complete (exchange_taken (exchange_of s a) m) ≡ nothing (messages_of a rest) =
     ap complete (sym own) ∙ (ap (λ (t : Store). complete (exchange_of t a)) (sym (after_one_holds empty_store before m)) ∙ complete_cut a (before ++ (m ∷ [])) rest (subst (Given a) whole h)) in
     let not_yet : complete (exchange_of s a) ≡ false = complete_cut a before (m ∷ rest) h ∙ rw e in
-    ap (λ (r : Received). r.finished) takes.answer
+    ap (λ (r : Outcome). r.finished) takes.answer
     ∙ ap to_both (ap (λ (b : Activity). complete (exchange_taken (exchange_of s b) m) && not (complete (exchange_of s b))) p ∙ rw (not_yet, now) (and_true _))
 
 pub completes_at_last : (a : Activity) (l : List Message) → Given a l → CompletesAtLast a l

@@ -12,3 +12,4 @@ pub mod Repeats
 pub mod Rows
 pub mod Slots
 pub mod Steps
+mod Told

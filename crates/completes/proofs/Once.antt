@@ -21,7 +21,7 @@ use Rattle.activities.specs.declared.Side.{Side}
 use Rattle.activities.specs.declared.Exchange.{Exchange}
 use Rattle.activities.specs.declared.Store.{Store}
 use Rattle.activities.specs.declared.Finishing.{Finishing}
-use Rattle.activities.specs.declared.Received.{Received}
+use Rattle.activities.specs.Outcome.{Outcome}
 use Rattle.completes.specs.Promises.{Sized, finishings, AtMostOnce}
 use Rattle.completes.proofs.Lists.{and_left, and_right, and_false}
 use Rattle.completes.proofs.Look.{same_equal}
@@ -161,7 +161,7 @@ module _ (side : Finishing → Bool) (told : (t : Bool) → side (to_both t) ≡
       takes h =
           let e = exchange_of s m.activity in
           let own = taken_own long h in
-          let now : side (receive s m).finished ≡ completes e m = ap (λ (r : Received). side r.finished) h.answer ∙ told (completes e m) in
+          let now : side (receive s m).finished ≡ completes e m = ap (λ (r : Outcome). side r.finished) h.answer ∙ told (completes e m) in
           record {
             kept = λ d. subst Done (sym own) (done_stays e m d);
             again = λ d. now ∙ not_again e m d;
@@ -170,7 +170,7 @@ module _ (side : Finishing → Bool) (told : (t : Bool) → side (to_both t) ≡
 
       refuses : Refuses s m → Turn m.activity s m (side (receive s m).finished)
       refuses h =
-          let none : side (receive s m).finished ≡ false = ap (λ (r : Received). side r.finished) h.answer ∙ told false in
+          let none : side (receive s m).finished ≡ false = ap (λ (r : Outcome). side r.finished) h.answer ∙ told false in
           record {
             kept = λ d. subst (λ (t : Store). Done (exchange_of t m.activity)) (sym (refused_store h)) d;
             again = λ d. none;

@@ -19,7 +19,7 @@ use Rattle.activities.specs.declared.Message.{Message}
 use Rattle.activities.specs.declared.Side.{Side}
 use Rattle.activities.specs.declared.Exchange.{Exchange}
 use Rattle.activities.specs.declared.Store.{Store}
-use Rattle.activities.specs.declared.Received.{Received}
+use Rattle.activities.specs.Outcome.{Outcome}
 use Rattle.completes.specs.Order.{Reordered, gather}
 use Rattle.completes.specs.Sends.{said_one, extras, NothingRefused, NoneRefused}
 use Rattle.completes.specs.Promises.{Sized, NoOrderRefuses}
@@ -63,7 +63,7 @@ names_after s [] long h = refl
 names_after s (m ∷ l) long h =
     let t = takes_zero s m h.0 in
     let put : names (holds (receive s m).store) ≡ named (names (holds s)) m.activity =
-    ap (λ (r : Received). names (holds r.store)) t.answer
+    ap (λ (r : Outcome). names (holds r.store)) t.answer
     ∙ (ap names (holds_written s m.activity _ long t.placed) ∙ names_put (holds s) m.activity _ (exchange_name s m.activity)) in
     names_after (receive s m).store l (sized_receive s m long) h.1 ∙ ap (λ (n : List Activity). collected n l) put
 

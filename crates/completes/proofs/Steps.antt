@@ -12,7 +12,7 @@ use Rattle.activities.specs.Store.{place_of, exchange_of}
 use Rattle.activities.specs.Receive.{side_of, exchange_taken, no_room, refused, accepted, receive}
 use Rattle.activities.specs.declared.Message.{Message}
 use Rattle.activities.specs.declared.Store.{Store}
-use Rattle.activities.specs.declared.Received.{Received}
+use Rattle.activities.specs.Outcome.{Outcome}
 use lib.ListN.{length}
 use Rattle.completes.specs.Promises.{Sized, RefusedChangesNothing, OthersStay}
 use Rattle.completes.proofs.Look.{exchange_name, own_written, other_written, sized_written}
@@ -58,18 +58,18 @@ outcome s m = go (neither m) refl (no_room s m) refl
 -- what a message does, by whether it is taken
 module _ {s : Store} {m : Message} where
   pub taken_answer : Takes s m → (receive s m).answer ≡ 0
-  taken_answer h = ap (λ (r : Received). r.answer) h.answer
+  taken_answer h = ap (λ (r : Outcome). r.answer) h.answer
 
   pub taken_own : Sized s → Takes s m → exchange_of (receive s m).store m.activity ≡ exchange_taken (exchange_of s m.activity) m
   unfolding exchange_taken
   taken_own long h =
-      ap (λ (r : Received). exchange_of r.store m.activity) h.answer ∙ own_written s m.activity _ long h.placed (exchange_name s m.activity)
+      ap (λ (r : Outcome). exchange_of r.store m.activity) h.answer ∙ own_written s m.activity _ long h.placed (exchange_name s m.activity)
 
   pub refused_store : Refuses s m → (receive s m).store ≡ s
-  refused_store h = ap (λ (r : Received). r.store) h.answer
+  refused_store h = ap (λ (r : Outcome). r.store) h.answer
 
   pub refused_answer : Refuses s m → (receive s m).answer ≢ 0
-  refused_answer h e = h.some (sym (ap (λ (r : Received). r.answer) h.answer) ∙ e)
+  refused_answer h e = h.some (sym (ap (λ (r : Outcome). r.answer) h.answer) ∙ e)
 
 -- a message that is answered 0 is taken
 pub takes_zero : (s : Store) (m : Message) → (receive s m).answer ≡ 0 → Takes s m
@@ -78,7 +78,7 @@ takes_zero s m e = ⊎_elim (λ (h : Takes s m). h) (λ (h : Refuses s m). absur
 pub sized_receive : (s : Store) (m : Message) → Sized s → Sized (receive s m).store
 sized_receive s m long =
     ⊎_elim
-    (λ (h : Takes s m). ap (λ (r : Received). length r.store.exchanges) h.answer ∙ sized_written s (place_of s m.activity) _ long)
+    (λ (h : Takes s m). ap (λ (r : Outcome). length r.store.exchanges) h.answer ∙ sized_written s (place_of s m.activity) _ long)
     (λ (h : Refuses s m). ap (λ (t : Store). length t.exchanges) (refused_store h) ∙ long)
     (outcome s m)
 
@@ -86,13 +86,13 @@ pub refused_changes_nothing : RefusedChangesNothing
 refused_changes_nothing s m n =
     ⊎_elim
     (λ (h : Takes s m). absurd (n (taken_answer h)))
-    (λ (h : Refuses s m). (refused_store h, ap (λ (r : Received). r.ack) h.answer, ap (λ (r : Received). r.finished) h.answer))
+    (λ (h : Refuses s m). (refused_store h, ap (λ (r : Outcome). r.ack) h.answer, ap (λ (r : Outcome). r.finished) h.answer))
     (outcome s m)
 
 pub others_stay : OthersStay
 unfolding exchange_taken
 others_stay s long m b d =
     ⊎_elim
-    (λ (h : Takes s m). ap (λ (r : Received). exchange_of r.store b) h.answer ∙ other_written s m.activity b _ long h.placed (exchange_name s m.activity) d)
+    (λ (h : Takes s m). ap (λ (r : Outcome). exchange_of r.store b) h.answer ∙ other_written s m.activity b _ long h.placed (exchange_name s m.activity) d)
     (λ (h : Refuses s m). ap (λ (t : Store). exchange_of t b) (refused_store h))
     (outcome s m)

@@ -1,9 +1,10 @@
--- What the first PReP's store promises of every run, in document 02's words.
-use Rattle.std.specs.Prelude.{ℕ, ◌+◌, ◌≤◌, ◌≡◌, ◌≢◌, Bool, true, false, ◌&&◌, cond, List, [], ◌∷◌, ◌++◌, length}
+-- What the first PReP's store promises of every run, message by message.
+use Rattle.std.specs.Prelude.{ℕ, ◌+◌, ◌≤◌, ◌≡◌, ◌≢◌, Bool, true, false, ◌&&◌, cond, List, [], ◌∷◌, ◌++◌, length, None}
 use Rattle.activities.specs.Activity.{same, neither}
 use Rattle.activities.specs.Side.{extras_of}
 use Rattle.activities.specs.Complete.{complete}
 use Rattle.activities.specs.Store.{empty_store, exchange_of}
+use Rattle.activities.specs.Outcome.{told_received}
 use Rattle.activities.specs.Receive.{side_of, ack_of, to_both, receive}
 use Rattle.activities.specs.Run.{after}
 use Rattle.activities.specs.declared.Activity.{Activity}
@@ -13,7 +14,6 @@ use Rattle.activities.specs.declared.Message.{Message}
 use Rattle.activities.specs.declared.Side.{Side}
 use Rattle.activities.specs.declared.Exchange.{Exchange}
 use Rattle.activities.specs.declared.Store.{Store}
-use Rattle.activities.specs.declared.Ack.TheVariants.{NoAck}
 use Rattle.activities.specs.declared.Finishing.{Finishing}
 use Rattle.activities.specs.declared.Received.{Received}
 use Rattle.completes.specs.Order.{Reordered, nothing}
@@ -27,7 +27,7 @@ Sized s = length s.exchanges ≡ 16
 abbrev pub RefusedChangesNothing : Type 0
 RefusedChangesNothing =
     (s : Store) (m : Message) → (receive s m).answer ≢ 0
-    → ((receive s m).store ≡ s) × ((receive s m).ack ≡ NoAck) × ((receive s m).finished ≡ to_both false)
+    → ((receive s m).store ≡ s) × ((receive s m).ack ≡ None) × ((receive s m).finished ≡ to_both false)
 
 -- A message for one activity leaves every other one's tables.
 abbrev pub OthersStay : Type 0
@@ -99,7 +99,7 @@ OwnOrderCompletes =
 
 -- The call's promise leaves one result.
 abbrev pub OneResult : Type 0
-OneResult = (s : Store) (m : Message) (r q : Received) → r ≡ receive s m → q ≡ receive s m → r ≡ q
+OneResult = (s : Store) (m : Message) (r q : Received) → told_received r ≡ receive s m → told_received q ≡ receive s m → r ≡ q
 
 pub record Promises : Type 0 where
   pub refused : RefusedChangesNothing

@@ -1,4 +1,4 @@
--- What the two sides of an activity send in a list of messages, and document 02's premises of it.
+-- What the two sides of an activity send in a list of messages, and the promises' premises of it.
 use Rattle.std.specs.Prelude.{ℕ, ◌+◌, ◌≡◌, ◌≢◌, true, ◌&&◌, cond, List, [], ◌∷◌, ◌++◌, eqb, length}
 use Rattle.activities.specs.Activity.{same}
 use Rattle.activities.specs.Receive.{receive}

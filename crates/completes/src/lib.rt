@@ -4,6 +4,7 @@
 
 ghost use Rattle.completes.specs.Promises.{Promises};
 
+/// The laws of completion.
 #[tactic(auto, using(crate::proofs::Promises::promises))]
 pub fn laws()
     ensures { Promises }

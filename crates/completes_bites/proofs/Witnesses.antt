@@ -11,7 +11,7 @@ use Rattle.activities.specs.Receive.{exchange_taken, no_room, completes, receive
 use Rattle.activities.specs.Run.{after}
 use Rattle.activities.specs.declared.Message.{Message}
 use Rattle.activities.specs.declared.Store.{Store}
-use Rattle.activities.specs.declared.Received.{Received}
+use Rattle.activities.specs.Outcome.{Outcome}
 use Rattle.completes.specs.Order.{gather}
 use Rattle.completes.specs.Sends.{NothingRefused}
 use Rattle.completes.specs.Promises.{finishings}
@@ -29,11 +29,11 @@ right_receive s m = refl
 right_after : (s : Store) (l : List Message) → after_by right s l ≡ after s l
 unfolding after_by after
 right_after s [] = refl
-right_after s (m ∷ l) = right_after (receive_by right s m).store l ∙ ap (λ (r : Received). after r.store l) (right_receive s m)
+right_after s (m ∷ l) = right_after (receive_by right s m).store l ∙ ap (λ (r : Outcome). after r.store l) (right_receive s m)
 
 taken_run : (l : List Message) → all_taken right empty_store l ≡ true → NothingRefused empty_store l
 taken_run l h before m rest e =
-    ap (λ (r : Received). r.answer) (sym (right_receive (after empty_store before) m))
+    ap (λ (r : Outcome). r.answer) (sym (right_receive (after empty_store before) m))
     ∙ (ap (λ (s : Store). (receive_by right s m).answer) (sym (right_after empty_store before)) ∙ nothing_refused right empty_store l h before m rest e)
 
 pub witnesses : Witnesses

@@ -12,7 +12,7 @@ use Rattle.activities.specs.Store.{empty_store, fresh, blank, place, exchange_of
 use Rattle.activities.specs.Receive.{exchange_taken, no_room, completes, receive}
 use Rattle.activities.specs.Run.{after}
 use Rattle.activities.specs.declared.Finishing.{Finishing}
-use Rattle.activities.specs.declared.Received.{Received}
+use Rattle.activities.specs.Outcome.{Outcome}
 use Rattle.completes.specs.Order.{gather}
 use Rattle.completes.specs.Sends.{Sends}
 use Rattle.completes_bites.specs.Setting.{called, clients, services, last, run}
@@ -44,7 +44,7 @@ too_early_holds h = true≢false ((h called run sends (nothing_refused too_early
 over_writing : RepeatsBy overwriting → ⊥
 unfolding same side_taken complete_side complete place exchange_of written exchange_taken no_room completes receive after exchange_by accepted_by receive_by overwritten
 over_writing h =
-    let changed : ◌≡◌ {A = ℕ} 9 1 = ap (λ (r : Received). (get_or r.store.exchanges 0 (fresh blank)).client.negotiation.list) (h (after empty_store clients) refl again refl refl) in
+    let changed : ◌≡◌ {A = ℕ} 9 1 = ap (λ (r : Outcome). (get_or r.store.exchanges 0 (fresh blank)).client.negotiation.list) (h (after empty_store clients) refl again refl refl) in
     omega arith
 
 pub wrong : Wrong

@@ -12,7 +12,7 @@ use Rattle.activities.specs.declared.Side.{Side}
 use Rattle.activities.specs.declared.Exchange.{Exchange}
 use Rattle.activities.specs.declared.Store.{Store}
 use Rattle.activities.specs.declared.Finishing.{Finishing}
-use Rattle.activities.specs.declared.Received.{Received}
+use Rattle.activities.specs.Outcome.{Outcome}
 use Rattle.completes.specs.Order.{nothing}
 use Rattle.completes.specs.Sends.{messages_of, Sends}
 use Rattle.completes.specs.Promises.{Sized, second}
@@ -36,7 +36,7 @@ exchange_by rules e m =
     }
 
 -- as accepted
-unfoldable pub accepted_by : Rules → Store → Message → Received
+unfoldable pub accepted_by : Rules → Store → Message → Outcome
 accepted_by rules s m =
     let e = exchange_of s m.activity in
     record {
@@ -47,7 +47,7 @@ accepted_by rules s m =
     }
 
 -- as receive
-unfoldable pub receive_by : Rules → Store → Message → Received
+unfoldable pub receive_by : Rules → Store → Message → Outcome
 receive_by rules s m = cond (neither m) (refused 17 s) (cond (no_room s m) (refused 18 s) (accepted_by rules s m))
 
 -- as after

@@ -11,7 +11,7 @@ use Rattle.activities.specs.declared.Side.{Side}
 use Rattle.activities.specs.declared.Finishing.{Finishing}
 use Rattle.completes_bites.specs.Variants.{Rules, AtLastBy, RepeatsBy}
 
--- 1. Figure 6 as it is printed: the finished acknowledgement goes to the sender alone.
+-- 1. Told to one side: the finished acknowledgement goes to the sender alone.
 abbrev pub to_sender : Message → Bool → Finishing
 to_sender m now = cond (by_client m) (record { client = now; service = false }) (record { client = false; service = now })
 

@@ -1,3 +1,1 @@
-mod Kit
-mod Outcomes
 mod Search

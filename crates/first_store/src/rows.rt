@@ -1,233 +1,126 @@
 // An activity's row in one table, and both rows.
-ghost use Rattle.std.specs.Prelude.{◌≡◌, false, ◌&&◌, not, ℕ, ◌<◌};
-ghost use Rattle.activities.specs.Side.{empty_side, additions, negotiated as negotiated_of, transmitted as transmitted_of, announced as announced_of, added as added_of, side_taken, full as full_of};
+ghost use Rattle.std.specs.Prelude.{◌≡◌, ◌<◌, ◌≤◌, Bool, false, true, cond, IfErr, OnOk};
 ghost use Rattle.activities.specs.Complete.{complete_side, complete as complete_of};
+ghost use Rattle.activities.specs.Side.{added, full, side_taken};
+ghost use Rattle.activities.specs.declared.refusal.StoreRefusal.TheVariants.{NoRoom};
 
-use activities::{Added, Announced, Exchange, Negotiated, Said, Side, Transmitted};
+use activities::{Added, Announced, Exchange, Negotiated, Said, Side, StoreRefusal, Transmitted};
 
-// Nothing yet.
-pub(crate) fn empty() -> Side
-    ensures { result ≡ empty_side }
-{
-    let none = Transmitted {
-        held: false,
-        extra: 0,
-        word: 0,
-    };
-    Side {
-        negotiation: Negotiated {
-            held: false,
-            list: 0,
-            accepted: 0,
-            extra: 0,
-        },
-        invocation: none,
-        result: none,
-        finished: Announced {
-            held: false,
-            count: 0,
-        },
-        additional: Added {
-            count: 0,
-            extras: [0; 8],
-        },
+/// What a table has of a kind: nothing, or the message that was taken first.
+trait Kind: Copy {
+    ghost held: { Self → Bool };
+
+    fn is_held(&self) -> bool
+        ensures { result ≡ held self.now };
+}
+
+impl Kind for Negotiated {
+    ghost held = { λ x. x.held };
+
+    fn is_held(&self) -> bool {
+        self.held
     }
 }
 
-// What is there stays: a second message of a kind changes nothing.
-fn negotiated(there: Negotiated, said: Negotiated) -> Negotiated
-    ensures { result ≡ negotiated_of there said }
-{
-    if there.held {
-        return there;
+impl Kind for Transmitted {
+    ghost held = { λ x. x.held };
+
+    fn is_held(&self) -> bool {
+        self.held
     }
-    said
 }
 
-fn transmitted(there: Transmitted, said: Transmitted) -> Transmitted
-    ensures { result ≡ transmitted_of there said }
-{
-    if there.held {
-        return there;
+impl Kind for Announced {
+    ghost held = { λ x. x.held };
+
+    fn is_held(&self) -> bool {
+        self.held
     }
-    said
 }
 
-fn announced(there: Announced, said: Announced) -> Announced
-    ensures { result ≡ announced_of there said }
+/// What is there stays: a second message of a kind changes nothing.
+fn keep_first<T: Kind>(there: &mut T, said: T)
+    ensures { there.new ≡ cond (T.held there.old) there.old said }
 {
-    if there.held {
-        return there;
+    if !there.is_held() {
+        *there = said;
     }
-    said
 }
 
-// An additional message goes behind the others.
-fn added(l: Added, extra: u32) -> Added
-    requires { l.count < 8 }
-    ensures { result ≡ added_of l extra }
+/// An additional message goes behind the others, where there is room.
+fn push(l: &mut Added, extra: u32) -> Result<(), StoreRefusal>
+    ensures ok { OnOk result ((l.old.count < 8) × (l.new ≡ added l.old extra)) }
+    ensures err { IfErr result (λ r. (r ≡ NoRoom) × (8 ≤ l.old.count) × (l.new ≡ l.old)) }
 {
-    let mut x = l;
     let n = l.count as usize;
-    x.extras[n] = extra;
-    x.count = l.count + 1;
-    x
-}
-
-#[tactic(auto, unfolding(activities::specs::Side::side_taken))]
-fn with_negotiation(x: Side, list: u32, accepted: u32, extra: u32) -> Side
-    ensures { result ≡ side_taken x (Said.Negotiation list accepted extra) }
-{
-    let n = negotiated(
-        x.negotiation,
-        Negotiated {
-            held: true,
-            list: list,
-            accepted: accepted,
-            extra: extra,
-        },
-    );
-    let mut y = x;
-    y.negotiation = n;
-    y
-}
-
-#[tactic(auto, unfolding(activities::specs::Side::side_taken))]
-fn with_invocation(x: Side, extra: u32, word: u32) -> Side
-    ensures { result ≡ side_taken x (Said.Invocation extra word) }
-{
-    let n = transmitted(
-        x.invocation,
-        Transmitted {
-            held: true,
-            extra: extra,
-            word: word,
-        },
-    );
-    let mut y = x;
-    y.invocation = n;
-    y
-}
-
-#[tactic(auto, unfolding(activities::specs::Side::side_taken))]
-fn with_result(x: Side, extra: u32, word: u32) -> Side
-    ensures { result ≡ side_taken x (Said.Result extra word) }
-{
-    let n = transmitted(
-        x.result,
-        Transmitted {
-            held: true,
-            extra: extra,
-            word: word,
-        },
-    );
-    let mut y = x;
-    y.result = n;
-    y
-}
-
-#[tactic(auto, unfolding(activities::specs::Side::side_taken))]
-fn with_finished(x: Side, count: u32) -> Side
-    ensures { result ≡ side_taken x (Said.Finished count) }
-{
-    let n = announced(
-        x.finished,
-        Announced {
-            held: true,
-            count: count,
-        },
-    );
-    let mut y = x;
-    y.finished = n;
-    y
-}
-
-#[tactic(auto, unfolding(activities::specs::Side::side_taken))]
-fn with_additional(x: Side, extra: u32) -> Side
-    requires { x.additional.count < 8 }
-    ensures { result ≡ side_taken x (Said.Additional extra) }
-{
-    let n = added(x.additional, extra);
-    let mut y = x;
-    y.additional = n;
-    y
-}
-
-// Whether there is no room for what is said.
-pub(crate) fn full(x: Side, said: Said) -> bool
-    ensures { result ≡ full_of x said }
-{
-    let l = x.additional;
-    match said {
-        Said::Negotiation {
-            list: _,
-            accepted: _,
-            extra: _,
-        } => false,
-        Said::Invocation { extra: _, word: _ } => false,
-        Said::Result { extra: _, word: _ } => false,
-        Said::Finished { count: _ } => false,
-        Said::Additional { extra: _ } => 8 <= l.count,
+    if 8 <= n {
+        return Err(StoreRefusal::NoRoom);
     }
+    l.extras[n] = extra;
+    l.count += 1;
+    Ok(())
 }
 
-// The row with what is said, where there is room for it.
-pub(crate) fn taken(x: Side, said: Said) -> Side
-    requires { full_of x said ≡ false }
-    ensures { result ≡ side_taken x said }
+/// The row with what is said, where there is room for it.
+#[tactic(auto, unfolding(activities::specs::Side::side_taken))]
+pub(crate) fn put(x: &mut Side, said: &Said) -> Result<(), StoreRefusal>
+    ensures ok { OnOk result ((full x.old said.now ≡ false) × (x.new ≡ side_taken x.old said.now)) }
+    ensures err { IfErr result (λ r. (r ≡ NoRoom) × (full x.old said.now ≡ true)) }
 {
-    match said {
+    match *said {
         Said::Negotiation {
             list,
             accepted,
             extra,
-        } => with_negotiation(x, list, accepted, extra),
-        Said::Invocation { extra, word } => with_invocation(x, extra, word),
-        Said::Result { extra, word } => with_result(x, extra, word),
-        Said::Finished { count } => with_finished(x, count),
-        Said::Additional { extra } => with_additional(x, extra),
+        } => {
+            let said = Negotiated {
+                held: true,
+                list,
+                accepted,
+                extra,
+            };
+            keep_first(&mut x.negotiation, said);
+        }
+        Said::Invocation { extra, word } => {
+            let said = Transmitted {
+                held: true,
+                extra,
+                word,
+            };
+            keep_first(&mut x.invocation, said);
+        }
+        Said::Result { extra, word } => {
+            let said = Transmitted {
+                held: true,
+                extra,
+                word,
+            };
+            keep_first(&mut x.result, said);
+        }
+        Said::Finished { count } => {
+            let said = Announced { held: true, count };
+            keep_first(&mut x.finished, said);
+        }
+        Said::Additional { extra } => return push(&mut x.additional, extra),
     }
+    Ok(())
 }
 
-// How many additional messages a row holds.
-fn additions_of(l: Added) -> u32
-    ensures { result ≡ additions l }
-{
-    if 8 < l.count {
-        return 8;
-    }
-    l.count as u32
-}
-
-fn both(a: bool, b: bool) -> bool
-    ensures { result ≡ (a && b) }
-{
-    if a {
-        return b;
-    }
-    false
-}
-
-// Whether a side has sent the first four, and as many additional ones as it announced.
+/// Whether a side has sent the first four, and as many additional ones as it announced.
 #[tactic(auto, unfolding(activities::specs::Complete::complete_side))]
-fn complete_side(x: Side) -> bool
-    ensures { result ≡ complete_side x }
+fn complete_side(x: &Side) -> bool
+    ensures { result ≡ complete_side x.now }
 {
-    let told = x.finished.count == 4 + additions_of(x.additional);
-    let asked = both(x.negotiation.held, x.invocation.held);
-    both(both(both(asked, x.result.held), x.finished.held), told)
+    x.negotiation.held
+        && x.invocation.held
+        && x.result.held
+        && x.finished.held
+        && x.finished.count == 4 + u32::from(x.additional.count.min(8))
 }
 
 #[tactic(auto, unfolding(activities::specs::Complete::complete))]
-pub(crate) fn complete(e: Exchange) -> bool
-    ensures { result ≡ complete_of e }
+pub(crate) fn complete(e: &Exchange) -> bool
+    ensures { result ≡ complete_of e.now }
 {
-    both(complete_side(e.client), complete_side(e.service))
-}
-
-// Whether an activity becomes complete.
-pub(crate) fn completes(before: Exchange, after: Exchange) -> bool
-    ensures { result ≡ (complete_of after && not (complete_of before)) }
-{
-    both(complete(after), !complete(before))
+    complete_side(&e.client) && complete_side(&e.service)
 }

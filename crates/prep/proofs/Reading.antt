@@ -1,36 +1,22 @@
--- The place behind a message, and the two loops over the messages: what is left from here is what is left from the start. Assumes nothing.
+-- The two loops over the messages: what is left from here is what is left from the start. Assumes nothing.
 use Prim.Native.Nat.{ℕ, suc, ◌+◌, ◌-◌, ◌≤◌, ◌<◌}
 use mathlib.Core.Path.{◌≡◌, refl, sym, ap, ◌∙◌}
 use mathlib.Core.Bool.{Bool, true, false, ◌&&◌, not, false≢true}
 use mathlib.Core.List.{List}
+use Rattle.std.specs.Prelude.{Option, Some, None, IfSome}
+use Rattle.std.specs.Option.{unwrap_or}
 use native.Mathlib.Omega.{arith}
-use borrow.Author.Tests.{lt-ltb, le-ltb, le-leb, lt-leb, eq-eqb, ne_eqb, leb-true}
+use borrow.Author.Tests.{le-leb, lt-leb, ne_eqb, leb-true}
 use lib.Dec.{leb, eqb}
 use lib.ListN.{length}
-use Rattle.activities.specs.Form.{kind_at, width_of, next_at, message_at, messages_to, well_formed, count_of, messages_from}
+use Rattle.activities.specs.Form.{next_at, message_at, messages_to, well_formed, count_of, messages_from}
 use Rattle.activities.specs.Receive.{receive}
 use Rattle.activities.specs.Run.{after}
 use Rattle.activities.specs.Store.{empty_store}
 use Rattle.activities.specs.declared.Message.{Message}
+use Rattle.activities.specs.Outcome.{Outcome, told_received}
 use Rattle.activities.specs.declared.Received.{Received}
 use Rattle.activities.specs.declared.Store.{Store}
-
-module _ (s : List ℕ) (at f : ℕ) (w : f ≡ width_of (kind_at s at)) where
-  pub next_short : length s - at < 25 → 0 ≡ next_at s at
-  unfolding next_at
-  next_short h = rw (lt-ltb (length s - at) 25 h)
-
-  pub next_unknown : 25 ≤ length s - at → f ≡ 0 → 0 ≡ next_at s at
-  unfolding next_at
-  next_unknown h e = rw (le-ltb (length s - at) 25 h, ← w, eq-eqb f 0 e)
-
-  pub next_cut : 25 ≤ length s - at → (f ≡ 0 → ⊥) → length s - at < 25 + f → 0 ≡ next_at s at
-  unfolding next_at
-  next_cut h e b = rw (le-ltb (length s - at) 25 h, ← w, ne_eqb f 0 e, lt-ltb (length s - at) (25 + f) b)
-
-  pub next_there : 25 ≤ length s - at → (f ≡ 0 → ⊥) → 25 + f ≤ length s - at → at + 25 + f ≡ next_at s at
-  unfolding next_at
-  next_there h e b = rw (le-ltb (length s - at) 25 h, ← w, ne_eqb f 0 e, le-ltb (length s - at) (25 + f) b)
 
 -- the form is tested up to a place
 pub record Tested (s : List ℕ) (count at i : ℕ) : Type 0 where
@@ -48,11 +34,11 @@ module _ {s : List ℕ} {count at i : ℕ} (h : Tested s count at i) where
   unfolding messages_to
   first_left b = sym (ap (λ (n : ℕ). messages_to s n at) (one_left b)) ∙ h.rest
 
-  pub tested_more : (next : ℕ) → i < count → next ≡ next_at s at → next ≤ length s → (next ≡ 0 → ⊥) → Tested s count next (i + 1)
-  tested_more next b e low n = record { low = low; rest = rw (← e, ne_eqb next 0 n) at (first_left b) }
+  pub tested_more : (next : ℕ) → i < count → next ≡ next_at s at → (0 < next) × (next ≤ length s) → Tested s count next (i + 1)
+  tested_more next b e (n, low) = record { low = low; rest = rw (← e, ne_eqb next 0 (λ z. omega arith)) at (first_left b) }
 
-  pub tested_stop : (next : ℕ) → i < count → next ≡ next_at s at → next ≡ 0 → false ≡ messages_to s count 2
-  tested_stop next b e z = rw (← e, eq-eqb next 0 z) at (first_left b)
+  pub tested_stop : i < count → 0 ≡ next_at s at → false ≡ messages_to s count 2
+  tested_stop b e = rw (← e) at (first_left b)
 
   pub tested_end : count ≤ i → eqb at (length s) ≡ messages_to s count 2
   unfolding messages_to
@@ -85,17 +71,22 @@ ran_start s count store h e =
     let all : count - 0 ≡ count = omega arith in
     record { low = h; rest = ap (λ (n : ℕ). after store (messages_from s n 2)) all ∙ ap (λ (t : Store). after t (messages_from s count 2)) e }
 
-pub ran_more : {s : List ℕ} {count : ℕ} {store : Store} {at i : ℕ} → Ran s count store at i → (m : Message) (r : Received) (next : ℕ) → i < count → m ≡ message_at s at → r ≡ receive store m → next ≡ next_at s at → next ≤ length s → Ran s count r.store next (i + 1)
+pub ran_more : {s : List ℕ} {count : ℕ} {store : Store} {at i : ℕ} → Ran s count store at i → (m : Message) (r : Received) (next : Option ℕ) → i < count → m ≡ message_at s at → told_received r ≡ receive store m → unwrap_or next 0 ≡ next_at s at → IfSome next (λ n. (0 < n) × (n ≤ length s)) → Ran s count r.store (unwrap_or next 0) (i + 1)
 unfolding after messages_from
 ran_more {s} {count} {store} {at} {i} h m r next b em er en low =
     let one : count - i ≡ suc (count - (i + 1)) = omega arith in
+    let rest = λ (n : ℕ). messages_from s (count - (i + 1)) n in
     record {
-      low = low;
+      low = within next low;
       rest =
-          ap (λ (n : ℕ). after r.store (messages_from s (count - (i + 1)) n)) en
-          ∙ (ap (λ (q : Received). after q.store (messages_from s (count - (i + 1)) (next_at s at))) (er ∙ ap (receive store) em)
+          ap (λ (n : ℕ). after r.store (rest n)) en
+          ∙ (ap (λ (q : Store). after q (rest (next_at s at))) (ap (λ (q : Outcome). q.store) (er ∙ ap (receive store) em))
           ∙ (sym (ap (λ (n : ℕ). after store (messages_from s n at)) one) ∙ h.rest));
     }
+  where
+    within : (o : Option ℕ) → IfSome o (λ n. (0 < n) × (n ≤ length s)) → unwrap_or o 0 ≤ length s
+    within (Some n) (p, q) = q
+    within None t = omega arith
 
 pub ran_end : {s : List ℕ} {count : ℕ} {store : Store} {at i : ℕ} → Ran s count store at i → count ≤ i → store ≡ after empty_store (messages_from s count 2)
 unfolding after messages_from

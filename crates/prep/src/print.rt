@@ -1,135 +1,101 @@
 // The lines on standard output: decimal numbers with one blank between.
-use activities::{
-    Ack, Activity, Added, Announced, Exchange, Finishing, Negotiated, Received, Side, Store,
-    Transmitted,
-};
-use std::io;
-use std::io::Write;
+use activities::{Ack, Activity, Exchange, Receipt, Side, Store, StoreRefusal};
+use std::fmt;
 
-pub(crate) fn text<W: Write>(out: &mut W, s: &[u8]) -> io::Result<()> {
-    out.write_all(s)
-}
+/// NUMBER ACK FINISHED: 0 or the refusal's; the number of the kind that is acknowledged, or `-`; 1 if both sides are told
+/// that all is there.
+#[derive(Clone, Copy)]
+pub(crate) struct Answer(pub Result<Receipt, StoreRefusal>);
 
-fn first<W: Write>(out: &mut W, n: u32) -> io::Result<()> {
-    edge::number(out, n as u64)
-}
-
-fn number<W: Write>(out: &mut W, n: u32) -> io::Result<()> {
-    text(out, b" ")?;
-    first(out, n)
-}
-
-fn flag<W: Write>(out: &mut W, b: bool) -> io::Result<()> {
-    if b {
-        return number(out, 1);
-    }
-    number(out, 0)
-}
-
-// The number of the kind that is acknowledged.
-fn ack<W: Write>(out: &mut W, a: Ack) -> io::Result<()> {
-    match a {
-        Ack::NoAck => text(out, b" -"),
-        Ack::NegotiationAck => number(out, 0),
-        Ack::InvocationAck => number(out, 1),
-        Ack::ResultAck => number(out, 2),
-        Ack::AdditionalAck => number(out, 4),
-    }
-}
-
-// 1 if both sides are told that all is there.
-fn finished<W: Write>(out: &mut W, f: Finishing) -> io::Result<()> {
-    if f.client {
-        return flag(out, f.service);
-    }
-    flag(out, false)
-}
-
-// NUMBER ACK FINISHED
-pub(crate) fn answer<W: Write>(out: &mut W, r: Received) -> io::Result<()> {
-    let a = r.ack;
-    first(out, r.answer as u32)?;
-    ack(out, a)?;
-    finished(out, r.finished)?;
-    text(out, b"\n")
-}
-
-fn activity<W: Write>(out: &mut W, a: Activity) -> io::Result<()> {
-    first(out, a.session)?;
-    number(out, a.nonce)?;
-    number(out, a.thread)?;
-    number(out, a.client)?;
-    number(out, a.service)?;
-    text(out, b"\n")
-}
-
-fn negotiation<W: Write>(out: &mut W, x: Negotiated) -> io::Result<()> {
-    if x.held {
-        number(out, 0)?;
-        number(out, x.list)?;
-        number(out, x.accepted)?;
-        number(out, x.extra)?;
-    }
-    Ok(())
-}
-
-// An invocation, kind 1, or a result, kind 2.
-fn transmission<W: Write>(out: &mut W, kind: u32, x: Transmitted) -> io::Result<()> {
-    if x.held {
-        number(out, kind)?;
-        number(out, x.extra)?;
-        number(out, x.word)?;
-    }
-    Ok(())
-}
-
-fn announcement<W: Write>(out: &mut W, x: Announced) -> io::Result<()> {
-    if x.held {
-        number(out, 3)?;
-        number(out, x.count)?;
-    }
-    Ok(())
-}
-
-fn additions<W: Write>(out: &mut W, x: Added) -> io::Result<()> {
-    let mut i: usize = 0;
-    while i < 8 {
-        if i < x.count as usize {
-            number(out, 4)?;
-            number(out, x.extras[i])?;
+impl fmt::Display for Answer {
+    fn fmt<W: fmt::Write>(&self, f: &mut fmt::Formatter<W>) -> fmt::Result {
+        match self.0 {
+            Ok(receipt) => {
+                let ack = kind(receipt.ack);
+                let finished = receipt.finished.client && receipt.finished.service;
+                write!(f, "0 {ack} {}", u8::from(finished))
+            }
+            Err(refusal) => write!(f, "{} - 0", u8::from(refusal)),
         }
-        i += 1;
     }
-    Ok(())
 }
 
-// 0 the client's or 1 the service's, C, then each message held.
-fn side<W: Write>(out: &mut W, role: u32, complete: bool, x: Side) -> io::Result<()> {
-    first(out, role)?;
-    flag(out, complete)?;
-    negotiation(out, x.negotiation)?;
-    transmission(out, 1, x.invocation)?;
-    transmission(out, 2, x.result)?;
-    announcement(out, x.finished)?;
-    additions(out, x.additional)?;
-    text(out, b"\n")
+fn kind(ack: Option<Ack>) -> &'static str {
+    match ack {
+        None => "-",
+        Some(Ack::NegotiationAck) => "0",
+        Some(Ack::InvocationAck) => "1",
+        Some(Ack::ResultAck) => "2",
+        Some(Ack::AdditionalAck) => "4",
+    }
 }
 
-fn exchange<W: Write>(out: &mut W, e: Exchange) -> io::Result<()> {
-    let complete = first_store::complete(e);
-    activity(out, e.activity)?;
-    side(out, 0, complete, e.client)?;
-    side(out, 1, complete, e.service)
-}
+/// Three lines for each activity, in the order of its first taken message.
+#[derive(Clone, Copy)]
+pub(crate) struct Tables<'a>(pub &'a Store);
 
-// Three lines for each activity, in the order of its first taken message.
-pub(crate) fn store<W: Write>(out: &mut W, s: Store) -> io::Result<()> {
-    let mut i: usize = 0;
-    while i < 16 {
-        if i < s.used as usize {
-            exchange(out, s.exchanges[i])?;
+impl fmt::Display for Tables<'_> {
+    fn fmt<W: fmt::Write>(&self, f: &mut fmt::Formatter<W>) -> fmt::Result {
+        let held = self.0.used.min(16) as usize;
+        for e in &self.0.exchanges[..held] {
+            write!(f, "{}", Lines(e))?;
         }
-        i += 1;
+        Ok(())
     }
-    Ok(())
+}
+
+/// The activity's numbers, then its row in either table, 0 the client's and 1 the service's.
+#[derive(Clone, Copy)]
+struct Lines<'a>(&'a Exchange);
+
+impl fmt::Display for Lines<'_> {
+    fn fmt<W: fmt::Write>(&self, f: &mut fmt::Formatter<W>) -> fmt::Result {
+        let Activity {
+            session,
+            nonce,
+            thread,
+            client,
+            service,
+        } = self.0.activity;
+        let complete = u8::from(first_store::complete(*self.0));
+        writeln!(f, "{session} {nonce} {thread} {client} {service}")?;
+        writeln!(f, "0 {complete}{}", Row(&self.0.client))?;
+        writeln!(f, "1 {complete}{}", Row(&self.0.service))
+    }
+}
+
+/// Each message held, as its kind and its fields.
+#[derive(Clone, Copy)]
+struct Row<'a>(&'a Side);
+
+impl fmt::Display for Row<'_> {
+    fn fmt<W: fmt::Write>(&self, f: &mut fmt::Formatter<W>) -> fmt::Result {
+        let Side {
+            negotiation,
+            invocation,
+            result,
+            finished,
+            additional,
+        } = self.0;
+        if negotiation.held {
+            write!(
+                f,
+                " 0 {} {} {}",
+                negotiation.list, negotiation.accepted, negotiation.extra
+            )?;
+        }
+        if invocation.held {
+            write!(f, " 1 {} {}", invocation.extra, invocation.word)?;
+        }
+        if result.held {
+            write!(f, " 2 {} {}", result.extra, result.word)?;
+        }
+        if finished.held {
+            write!(f, " 3 {}", finished.count)?;
+        }
+        for extra in &additional.extras[..additional.count.min(8) as usize] {
+            write!(f, " 4 {extra}")?;
+        }
+        Ok(())
+    }
 }
