@@ -6,7 +6,7 @@ use arrayvec::ArrayVec;
 use std::io;
 use std::io::Read;
 
-// The first bytes, as many as there is room for.
+/// The first bytes, as many as there is room for.
 pub fn up_to<R: Read + Drop, const ROOM: usize>(reader: R) -> io::Result<ArrayVec<u8, ROOM>>
     ensures { IfOk result (λ v. IfSome (R.remaining reader) (λ xs. v.items ≡ take ROOM xs)) }
 {
@@ -16,7 +16,7 @@ pub fn up_to<R: Read + Drop, const ROOM: usize>(reader: R) -> io::Result<ArrayVe
     Ok(bytes)
 }
 
-// All bytes; none where there are more than the 65,536 that a book may have.
+/// All bytes; none where there are more than the 65,536 that a book may have.
 pub fn book<R: Read + Drop>(reader: R) -> io::Result<Option<ArrayVec<u8, 65537>>>
     ensures low { IfOk result (λ input. IfSome input (λ v. array_vec_len v ≤ 65536)) }
     ensures all { IfOk result (λ input. IfSome input (λ v. IfSome (R.remaining reader) (λ xs. v.items ≡ xs))) }

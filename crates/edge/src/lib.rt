@@ -1,4 +1,4 @@
-// A program's edge: standard input as bytes, the program's words, and numbers on a writer.
+//! What the programs share: standard input as bytes, the program's words, and lines on a writer. Nothing is allocated.
 #![tactic(auto)]
 
 mod input;
@@ -6,5 +6,5 @@ mod print;
 mod words;
 
 pub use input::{book, up_to};
-pub use print::number;
-pub use words::word;
+pub use print::{Fields, line};
+pub use words::{number, word};

@@ -1,13 +1,30 @@
-// Decimal numbers on a writer.
-ghost use Rattle.std.specs.Prelude.{OnOk};
-ghost use Rattle.std.specs.Io.KnownBytes.{Appends};
+// Lines on a writer, and numbers on a line.
+ghost use Rattle.std.specs.Prelude.{◌++◌, ◌∷◌, [], OnOk, IfSome, Some};
 ghost use Rattle.std.specs.Fmt.{decimal};
+ghost use Rattle.std.specs.List.{flat_map};
+ghost use Rattle.std.specs.Io.KnownBytes.{Appends};
 
-use std::io;
 use std::io::Write;
+use std::{fmt, io};
 
-pub fn number<W: Write>(out: &mut W, n: u64) -> io::Result<()>
-    ensures { OnOk result (Appends (W.contents out.old) (W.contents out.new) (decimal n)) }
+/// What is said, and a line feed.
+pub fn line<W: Write, T: fmt::Display + Drop>(out: &mut W, said: T) -> io::Result<()>
+    ensures { OnOk result (IfSome (T.output said) (λ text. Appends (W.contents out.old) (W.contents out.new) (text ++ 10 ∷ []))) }
 {
-    write!(out, "{n}")
+    writeln!(out, "{said}")
+}
+
+/// Numbers on a line, a blank before each.
+#[derive(Clone, Copy, Debug)]
+pub struct Fields<'a>(pub &'a [u8]);
+
+impl fmt::Display for Fields<'_> {
+    ghost output = { λ fields. Some (flat_map (λ n. 32 ∷ decimal n) fields.0.now) };
+
+    fn fmt<W: fmt::Write>(&self, f: &mut fmt::Formatter<W>) -> fmt::Result {
+        for n in self.0 {
+            write!(f, " {n}")?;
+        }
+        Ok(())
+    }
 }

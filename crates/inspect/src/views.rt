@@ -1,273 +1,233 @@
-// The lines of a machine: its counts, its actors, and what there is of each view.
+//! The lines of a machine: its counts, its actors, and what there is of each view.
 ghost use Rattle.std.specs.Prelude.{◌<◌};
 
-use super::print;
-use protocol::{Contents, Entry, Links, Message, Queue, Repair, State, Store, View};
-use std::io;
-use std::io::Write;
+use edge::Fields;
+use protocol::phase::NOT_MADE;
+use protocol::sets::{is_in, with};
+use protocol::{Contents, Links, Queue, State, Status, View};
+use std::fmt;
 
-// Bit p for a store p that is up.
-fn up_mask(shelves: [Store; 8]) -> u64 {
-    let mut mask: u64 = 0;
-    let mut p: usize = 0;
-    while p < 8 {
-        let s = shelves[p];
-        if s.up {
-            mask |= 1 << p;
+/// Every line of a machine.
+#[derive(Clone, Copy)]
+pub(crate) struct Lines<'a>(pub &'a State);
+
+impl fmt::Display for Lines<'_> {
+    fn fmt<W: fmt::Write>(&self, f: &mut fmt::Formatter<W>) -> fmt::Result {
+        let m = self.0;
+        writeln!(f, "M {} {} {} {}", m.stores, m.actors, m.made, up_mask(m))?;
+        for a in 0..usize::from(m.actors.min(8)) {
+            writeln!(
+                f,
+                "A {a} {} {}{}",
+                m.homes[a],
+                m.lists[a],
+                Waiting(&m.queues[a])
+            )?;
         }
-        p += 1;
+        for v in 0..usize::from(m.made.min(16)) * 2 {
+            write!(f, "{}", OfView { m, v })?;
+        }
+        Ok(())
+    }
+}
+
+/// Bit p for a store p that is up.
+fn up_mask(m: &State) -> u32 {
+    let mut mask = 0;
+    for (p, shelf) in m.shelves.iter().enumerate() {
+        if shelf.up {
+            mask = with(mask, p);
+        }
     }
     mask
 }
 
-// The views of a queue, oldest first, each as key.role.
-fn queue<W: Write>(out: &mut W, q: Queue) -> io::Result<()> {
-    let mut i: usize = 0;
-    while i < 16 {
-        if i < q.len as usize {
-            let v = q.views[i];
-            print::small(out, v / 2)?;
-            print::text(out, b".")?;
-            edge::number(out, v as u64 % 2)?;
+/// The views of a queue, oldest first, each as key.role.
+#[derive(Clone, Copy)]
+struct Waiting<'a>(&'a Queue);
+
+impl fmt::Display for Waiting<'_> {
+    fn fmt<W: fmt::Write>(&self, f: &mut fmt::Formatter<W>) -> fmt::Result {
+        let q = self.0;
+        for v in q.views.iter().take(usize::from(q.len)) {
+            write!(f, " {}.{}", v / 2, v % 2)?;
         }
-        i += 1;
+        Ok(())
     }
-    Ok(())
 }
 
-fn actor_line<W: Write>(out: &mut W, actor: usize, home: u8, list: u8, q: Queue) -> io::Result<()> {
-    print::text(out, b"A")?;
-    print::field(out, actor as u64)?;
-    print::small(out, home)?;
-    print::small(out, list)?;
-    queue(out, q)?;
-    print::text(out, b"\n")
+/// A view's number as key and role.
+#[derive(Clone, Copy)]
+struct KeyRole(usize);
+
+impl fmt::Display for KeyRole {
+    fn fmt<W: fmt::Write>(&self, f: &mut fmt::Formatter<W>) -> fmt::Result {
+        write!(f, "{} {}", self.0 / 2, self.0 % 2)
+    }
 }
 
-fn actors<W: Write>(out: &mut W, m: State) -> io::Result<()> {
-    let mut a: usize = 0;
-    while a < 8 {
-        if a < m.actors as usize {
-            actor_line(out, a, m.homes[a], m.lists[a], m.queues[a])?;
+/// A set of causes, and the link of each, rising.
+#[derive(Clone, Copy)]
+struct Causes<'a> {
+    set: u16,
+    links: &'a [u8; 16],
+}
+
+impl fmt::Display for Causes<'_> {
+    fn fmt<W: fmt::Write>(&self, f: &mut fmt::Formatter<W>) -> fmt::Result {
+        write!(f, "{}", self.set)?;
+        for (j, link) in self.links.iter().enumerate() {
+            if is_in(u32::from(self.set), j) {
+                write!(f, " {j}:{link}")?;
+            }
         }
-        a += 1;
+        Ok(())
     }
-    Ok(())
 }
 
-fn flag<W: Write>(out: &mut W, b: bool) -> io::Result<()> {
-    if b {
-        return print::small(out, 1);
-    }
-    print::small(out, 0)
+/// What there is of a view: its record, behind a receiver's its message, its repair, its entry, then what each store has.
+#[derive(Clone, Copy)]
+struct OfView<'a> {
+    m: &'a State,
+    v: usize,
+    ghost bound: { v < 32 },
 }
 
-fn record_line<W: Write>(out: &mut W, v: usize, w: View) -> io::Result<()> {
-    print::text(out, b"V")?;
-    print::view(out, v)?;
-    print::small(out, w.actor)?;
-    print::small(out, w.phase)?;
-    if w.phase != 0 {
-        let links = w.links;
-        print::field(out, w.word as u64)?;
-        print::small(out, w.store)?;
-        print::small(out, w.viewlink)?;
-        flag(out, w.changed)?;
-        print::small(out, w.tries)?;
-        print::causes(out, w.causes, links)?;
+impl fmt::Display for OfView<'_> {
+    fn fmt<W: fmt::Write>(&self, f: &mut fmt::Formatter<W>) -> fmt::Result {
+        let m = self.m;
+        let v = self.v;
+        let view = KeyRole(v);
+        writeln!(f, "V {view}{}", Record(&m.views[v]))?;
+        let message = m.messages[v / 2];
+        if v % 2 == 1 && message.flying {
+            writeln!(f, "P {} {} {}", v / 2, message.own, message.word)?;
+        }
+        let repair = m.repairs[v];
+        if repair.flying {
+            writeln!(f, "R {view} {} {}", repair.destination, repair.own)?;
+        }
+        // The line's status: 0 to-send, 1 waiting, 2 done.
+        let entry = m.entries[v];
+        if let Some(status) = u8::from(entry.status).checked_sub(1) {
+            writeln!(f, "E {view} {} {} {status}", entry.destination, entry.own)?;
+        }
+        for p in 0..usize::from(m.stores.min(8)) {
+            write!(f, "{}", Place { m, p, v })?;
+        }
+        Ok(())
     }
-    print::text(out, b"\n")
 }
 
-// Behind a receiver's line.
-fn message_line<W: Write>(out: &mut W, v: usize, g: Message) -> io::Result<()> {
-    if v % 2 == 0 {
-        return Ok(());
+/// A view's record at its actor; in phase 0 only the actor is set.
+#[derive(Clone, Copy)]
+struct Record<'a>(&'a View);
+
+impl fmt::Display for Record<'_> {
+    fn fmt<W: fmt::Write>(&self, f: &mut fmt::Formatter<W>) -> fmt::Result {
+        let w = self.0;
+        write!(f, " {} {}", w.actor, w.phase)?;
+        if w.phase == NOT_MADE {
+            return Ok(());
+        }
+        let changed = u8::from(w.changed);
+        let causes = Causes {
+            set: w.causes,
+            links: &w.links,
+        };
+        write!(
+            f,
+            " {} {} {} {changed} {} {causes}",
+            w.word, w.store, w.viewlink, w.tries
+        )
     }
-    if g.flying {
-        print::text(out, b"P")?;
-        print::field(out, v as u64 / 2)?;
-        print::small(out, g.own)?;
-        print::field(out, g.word as u64)?;
-        print::text(out, b"\n")?;
-    }
-    Ok(())
 }
 
-fn repair_line<W: Write>(out: &mut W, v: usize, r: Repair) -> io::Result<()> {
-    if r.flying {
-        print::text(out, b"R")?;
-        print::view(out, v)?;
-        print::small(out, r.destination)?;
-        print::small(out, r.own)?;
-        print::text(out, b"\n")?;
-    }
-    Ok(())
-}
-
-// The line's status: 0 to-send, 1 waiting, 2 done.
-fn entry_line<W: Write>(out: &mut W, v: usize, e: Entry) -> io::Result<()> {
-    let s = e.status;
-    let status = protocol::status_number(s);
-    if status != 0 {
-        print::text(out, b"E")?;
-        print::view(out, v)?;
-        print::small(out, e.destination)?;
-        print::small(out, e.own)?;
-        print::small(out, status - 1)?;
-        print::text(out, b"\n")?;
-    }
-    Ok(())
-}
-
-fn has(set: u32, v: usize) -> bool
-    requires { v < 32 }
-{
-    (set >> v) % 2 == 1
-}
-
-fn contents_line<W: Write>(
-    out: &mut W,
+/// What a store has of a view and what is in flight to it: working state, checkpointed state, notes, copies.
+#[derive(Clone, Copy)]
+struct Place<'a> {
+    m: &'a State,
     p: usize,
     v: usize,
-    c: Contents,
-    links: [u8; 16],
-) -> io::Result<()> {
-    print::text(out, b"S")?;
-    print::field(out, p as u64)?;
-    print::view(out, v)?;
-    print::small(out, c.asserter)?;
-    print::field(out, c.word as u64)?;
-    print::causes(out, c.causes, links)?;
-    print::text(out, b"\n")
+    ghost p_bound: { p < 8 },
+    ghost v_bound: { v < 32 },
 }
 
-fn viewlink_line<W: Write>(out: &mut W, p: usize, v: usize, link: u8) -> io::Result<()> {
-    print::text(out, b"L")?;
-    print::field(out, p as u64)?;
-    print::view(out, v)?;
-    print::small(out, link)?;
-    print::text(out, b"\n")
+impl fmt::Display for Place<'_> {
+    fn fmt<W: fmt::Write>(&self, f: &mut fmt::Formatter<W>) -> fmt::Result {
+        let m = self.m;
+        let p = self.p;
+        let v = self.v;
+        let view = KeyRole(v);
+        let at = p * 32 + v;
+        let shelf = &m.shelves[p];
+        let contents = &m.contents[at];
+        let links = &m.links[p * 16 + v / 2];
+        let working = Held {
+            letters: "",
+            p,
+            view,
+            held: is_in(shelf.held, v),
+            viewlink: shelf.viewlinks[v],
+            contents,
+            links,
+        };
+        let checkpointed = Held {
+            letters: "C",
+            held: is_in(shelf.kept, v),
+            viewlink: shelf.keptlinks[v],
+            ..working
+        };
+        write!(f, "{working}{checkpointed}")?;
+        let ack = is_in(shelf.acksowed, v);
+        let uack = is_in(shelf.uacksowed, v);
+        if ack || uack {
+            writeln!(f, "N {p} {view} {} {}", u8::from(ack), u8::from(uack))?;
+        }
+        let copies = [m.records[at], m.acks[at], m.updates[at], m.uacks[at]];
+        if copies != [0; 4] {
+            writeln!(f, "F {p} {view}{}", Fields(&copies))?;
+        }
+        Ok(())
+    }
 }
 
-// What one of a store's states has of a view; both lines begin with the same letters, and then their own.
-fn state_lines<W: Write>(
-    out: &mut W,
-    letters: &[u8],
+/// What one of a store's two states has of a view: its contents and its viewlink, in lines that begin with the state's letters.
+#[derive(Clone, Copy)]
+struct Held<'a> {
+    letters: &'a str,
     p: usize,
-    v: usize,
+    view: KeyRole,
     held: bool,
-    c: Contents,
-    links: [u8; 16],
-    link: u8,
-) -> io::Result<()> {
-    if held {
-        print::text(out, letters)?;
-        contents_line(out, p, v, c, links)?;
-    }
-    if link != 0 {
-        print::text(out, letters)?;
-        viewlink_line(out, p, v, link - 1)?;
-    }
-    Ok(())
+    contents: &'a Contents,
+    links: &'a Links,
+    /// 0 for none, and p + 1 for store p.
+    viewlink: u8,
 }
 
-fn notes_line<W: Write>(out: &mut W, p: usize, v: usize, ack: bool, uack: bool) -> io::Result<()> {
-    if ack || uack {
-        print::text(out, b"N")?;
-        print::field(out, p as u64)?;
-        print::view(out, v)?;
-        flag(out, ack)?;
-        flag(out, uack)?;
-        print::text(out, b"\n")?;
-    }
-    Ok(())
-}
-
-fn copies_line<W: Write>(
-    out: &mut W,
-    p: usize,
-    v: usize,
-    record: u8,
-    ack: u8,
-    update: u8,
-    uack: u8,
-) -> io::Result<()> {
-    if (record | ack | update | uack) == 0 {
-        return Ok(());
-    }
-    print::text(out, b"F")?;
-    print::field(out, p as u64)?;
-    print::view(out, v)?;
-    print::small(out, record)?;
-    print::small(out, ack)?;
-    print::small(out, update)?;
-    print::small(out, uack)?;
-    print::text(out, b"\n")
-}
-
-// Working state, checkpointed state, notes, copies.
-fn place_lines<W: Write>(out: &mut W, m: State, p: usize, v: usize) -> io::Result<()>
-    requires p_bound { p < 8 }
-    requires v_bound { v < 32 }
-{
-    let at = p * 32 + v;
-    let s = m.shelves[p];
-    let c = m.contents[at];
-    let l = m.links[p * 16 + v / 2];
-    let links = l.to;
-    state_lines(out, b"", p, v, has(s.held, v), c, links, s.viewlinks[v])?;
-    state_lines(out, b"C", p, v, has(s.kept, v), c, links, s.keptlinks[v])?;
-    notes_line(out, p, v, has(s.acksowed, v), has(s.uacksowed, v))?;
-    copies_line(
-        out,
-        p,
-        v,
-        m.records[at],
-        m.acks[at],
-        m.updates[at],
-        m.uacks[at],
-    )
-}
-
-fn places<W: Write>(out: &mut W, m: State, v: usize) -> io::Result<()>
-    requires { v < 32 }
-{
-    let mut p: usize = 0;
-    while p < 8 {
-        if p < m.stores as usize {
-            place_lines(out, m, p, v)?;
+impl fmt::Display for Held<'_> {
+    fn fmt<W: fmt::Write>(&self, f: &mut fmt::Formatter<W>) -> fmt::Result {
+        let Held {
+            letters,
+            p,
+            view,
+            contents,
+            ..
+        } = *self;
+        if self.held {
+            let causes = Causes {
+                set: contents.causes,
+                links: &self.links.to,
+            };
+            writeln!(
+                f,
+                "{letters}S {p} {view} {} {} {causes}",
+                contents.asserter, contents.word
+            )?;
         }
-        p += 1;
-    }
-    Ok(())
-}
-
-fn view_lines<W: Write>(out: &mut W, m: State, v: usize) -> io::Result<()>
-    requires { v < 32 }
-{
-    record_line(out, v, m.views[v])?;
-    message_line(out, v, m.messages[v / 2])?;
-    repair_line(out, v, m.repairs[v])?;
-    entry_line(out, v, m.entries[v])?;
-    places(out, m, v)
-}
-
-pub(crate) fn machine<W: Write>(out: &mut W, m: State) -> io::Result<()> {
-    let shelves = m.shelves;
-    print::text(out, b"M")?;
-    print::small(out, m.stores)?;
-    print::small(out, m.actors)?;
-    print::small(out, m.made)?;
-    print::field(out, up_mask(shelves))?;
-    print::text(out, b"\n")?;
-    actors(out, m)?;
-    let mut v: usize = 0;
-    while v < 32 {
-        if v < m.made as usize * 2 {
-            view_lines(out, m, v)?;
+        if let Some(link) = self.viewlink.checked_sub(1) {
+            writeln!(f, "{letters}L {p} {view} {link}")?;
         }
-        v += 1;
+        Ok(())
     }
-    Ok(())
 }

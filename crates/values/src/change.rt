@@ -1,133 +1,102 @@
-// What a row changes: a slot, or by a step or the drain the whole state.
+//! What a row changes: a slot, or by a step or the drain the whole state.
 ghost use Rattle.std.specs.Prelude.{◌<◌};
 
-use crate::row::Row;
+use crate::row::{Place, Row, view_at};
 use machine::Machine;
-use protocol::{Contents, Entry, Links, Message, Queue, Read, Repair, Setup, State, Status, View};
-use runs::reader;
+use protocol::sets::with;
+use protocol::{Contents, Entry, Links, Message, Repair, Setup, State, Status, View};
 
-// Setup M of document 01: three stores, actor 0 home 0 list 5, actor 1 home 1 list 6.
+/// Setup M: three stores, actor 0 home 0 list 5, actor 1 home 1 list 6.
 pub(crate) fn fresh() -> State {
-    let homes = [0, 1, 0, 0, 0, 0, 0, 0];
-    let lists = [5, 6, 0, 0, 0, 0, 0, 0];
-    let made = Machine::setup(Setup {
+    let setup = Setup {
         stores: 3,
         actors: 2,
-        homes: homes,
-        lists: lists,
-    });
-    let fresh = made.machine;
-    fresh.state
-}
-
-fn empty() -> State {
-    let none = Machine::empty();
-    none.state
-}
-
-pub(crate) fn view_at(key: u8, role: u8) -> usize
-    ensures { result < 32 }
-{
-    (key as usize * 2 + role as usize) % 32
-}
-
-pub(crate) fn place_at(store: u8, key: u8, role: u8) -> usize
-    ensures { result < 256 }
-{
-    (store as usize * 32 + view_at(key, role)) % 256
-}
-
-fn links_at(store: u8, key: u8) -> usize
-    ensures { result < 128 }
-{
-    (store as usize * 16 + key as usize) % 128
+        homes: [0, 1, 0, 0, 0, 0, 0, 0],
+        lists: [5, 6, 0, 0, 0, 0, 0, 0],
+    };
+    Machine::setup(setup).machine.state
 }
 
 fn one_link(link: u8) -> [u8; 16] {
     [link, 0, 0, 0, 0, 0, 0, 0, 0, 0, 0, 0, 0, 0, 0, 0]
 }
 
-// M stores actors made.
-fn counts(mut m: State, n: [u8; 64]) -> State {
-    m.stores = n[1];
-    m.actors = n[2];
-    m.made = n[3];
-    m
+fn counts(m: &mut State, row: &Row) {
+    let [_, stores, actors, made, ..] = row.numbers;
+    m.stores = stores;
+    m.actors = actors;
+    m.made = made;
 }
 
-// U store up.
-fn up(mut m: State, n: [u8; 64]) -> State {
-    let p = n[1] as usize % 8;
-    let mut s = m.shelves[p];
-    s.up = n[2] == 1;
-    m.shelves[p] = s;
-    m
+fn store_up(m: &mut State, row: &Row) {
+    let [_, store, up, ..] = row.numbers;
+    m.shelves[usize::from(store % 8)].up = up == 1;
 }
 
-// A actor home list.
-fn actor(mut m: State, n: [u8; 64]) -> State {
-    let a = n[1] as usize % 8;
-    m.homes[a] = n[2];
-    m.lists[a] = n[3];
-    m
+fn actor(m: &mut State, row: &Row) {
+    let [_, actor, home, list, ..] = row.numbers;
+    let a = usize::from(actor % 8);
+    m.homes[a] = home;
+    m.lists[a] = list;
 }
 
-// Q actor length place view.
-fn queue(mut m: State, n: [u8; 64]) -> State {
-    let a = n[1] as usize % 8;
-    let i = n[3] as usize % 16;
-    let mut q = m.queues[a];
-    q.len = n[2];
-    q.views[i] = n[4];
-    m.queues[a] = q;
-    m
+fn queue(m: &mut State, row: &Row) {
+    let [_, actor, len, place, view, ..] = row.numbers;
+    let queue = &mut m.queues[usize::from(actor % 8)];
+    queue.len = len;
+    queue.views[usize::from(place % 16)] = view;
 }
 
-// V key role actor phase data store viewlink changed causes link tries: the link is that of cause 0.
-fn view(mut m: State, n: [u8; 64]) -> State {
-    let v = view_at(n[1], n[2]);
-    let links = one_link(n[10]);
-    let w = View {
-        actor: n[3],
-        phase: n[4],
-        store: n[6],
-        viewlink: n[7],
-        changed: n[8] == 1,
-        tries: n[11],
-        causes: n[9] as u16,
-        word: n[5] as u32,
-        links: links,
+/// The link is that of cause 0.
+fn view(m: &mut State, row: &Row) {
+    let [
+        _,
+        key,
+        role,
+        actor,
+        phase,
+        word,
+        store,
+        viewlink,
+        changed,
+        causes,
+        link,
+        tries,
+        ..
+    ] = row.numbers;
+    m.views[view_at(key, role)] = View {
+        actor,
+        phase,
+        store,
+        viewlink,
+        changed: changed == 1,
+        tries,
+        causes: u16::from(causes),
+        word: u32::from(word),
+        links: one_link(link),
     };
-    m.views[v] = w;
-    m
 }
 
-// P key flying own data.
-fn message(mut m: State, n: [u8; 64]) -> State {
-    let k = n[1] as usize % 16;
-    let g = Message {
-        flying: n[2] == 1,
-        own: n[3],
-        word: n[4] as u32,
+fn message(m: &mut State, row: &Row) {
+    let [_, key, flying, own, word, ..] = row.numbers;
+    m.messages[usize::from(key % 16)] = Message {
+        flying: flying == 1,
+        own,
+        word: u32::from(word),
     };
-    m.messages[k] = g;
-    m
 }
 
-// R key role flying destination own.
-fn repair(mut m: State, n: [u8; 64]) -> State {
-    let v = view_at(n[1], n[2]);
-    let r = Repair {
-        flying: n[3] == 1,
-        destination: n[4],
-        own: n[5],
+fn repair(m: &mut State, row: &Row) {
+    let [_, key, role, flying, destination, own, ..] = row.numbers;
+    m.repairs[view_at(key, role)] = Repair {
+        flying: flying == 1,
+        destination,
+        own,
     };
-    m.repairs[v] = r;
-    m
 }
 
-fn status(n: u8) -> Status {
-    match n {
+fn status(number: u8) -> Status {
+    match number {
         0 => Status::Nothing,
         1 => Status::ToSend,
         2 => Status::Waiting,
@@ -135,128 +104,97 @@ fn status(n: u8) -> Status {
     }
 }
 
-// E key role status destination own: 0 nothing, 1 to-send, 2 waiting, 3 done.
-fn entry(mut m: State, n: [u8; 64]) -> State {
-    let v = view_at(n[1], n[2]);
-    let s = status(n[3]);
-    let e = Entry {
-        status: s,
-        destination: n[4],
-        own: n[5],
+fn entry(m: &mut State, row: &Row) {
+    let [_, key, role, number, destination, own, ..] = row.numbers;
+    m.entries[view_at(key, role)] = Entry {
+        status: status(number),
+        destination,
+        own,
     };
-    m.entries[v] = e;
-    m
 }
 
-// A set of views with the view v in it, or without.
-fn with_view(set: u32, v: usize, member: bool) -> u32
+/// A set with the view v in it where the number is 1, and without it else.
+fn put(set: u32, v: usize, number: u8) -> u32
     requires { v < 32 }
 {
-    let only: u32 = 1 << v;
-    if member {
-        return set | only;
+    let joined = with(set, v);
+    if number == 1 {
+        joined
+    } else {
+        joined ^ (1 << v)
     }
-    (set | only) ^ only
 }
 
-// S store key role held asserter data causes kept.
-fn contents(mut m: State, n: [u8; 64]) -> State {
-    let at = place_at(n[1], n[2], n[3]);
-    let p = at / 32;
-    let v = at % 32;
-    let c = Contents {
-        asserter: n[5],
-        causes: n[7] as u16,
-        word: n[6] as u32,
+fn contents(m: &mut State, row: &Row) {
+    let [_, store, key, role, held, asserter, word, causes, kept, ..] = row.numbers;
+    let place = Place::new(store, key, role);
+    m.contents[place.number()] = Contents {
+        asserter,
+        causes: u16::from(causes),
+        word: u32::from(word),
     };
-    m.contents[at] = c;
-    let mut s = m.shelves[p];
-    s.held = with_view(s.held, v, n[4] == 1);
-    s.kept = with_view(s.kept, v, n[8] == 1);
-    m.shelves[p] = s;
-    m
+    let shelf = &mut m.shelves[place.p];
+    shelf.held = put(shelf.held, place.v, held);
+    shelf.kept = put(shelf.kept, place.v, kept);
 }
 
-// N store key role ackowed uackowed.
-fn notes(mut m: State, n: [u8; 64]) -> State {
-    let at = place_at(n[1], n[2], n[3]);
-    let p = at / 32;
-    let v = at % 32;
-    let mut s = m.shelves[p];
-    s.acksowed = with_view(s.acksowed, v, n[4] == 1);
-    s.uacksowed = with_view(s.uacksowed, v, n[5] == 1);
-    m.shelves[p] = s;
-    m
+fn notes(m: &mut State, row: &Row) {
+    let [_, store, key, role, acks, uacks, ..] = row.numbers;
+    let place = Place::new(store, key, role);
+    let shelf = &mut m.shelves[place.p];
+    shelf.acksowed = put(shelf.acksowed, place.v, acks);
+    shelf.uacksowed = put(shelf.uacksowed, place.v, uacks);
 }
 
-// C store key link: the link of cause 0 in the sender's contents.
-fn cause_link(mut m: State, n: [u8; 64]) -> State {
-    let at = links_at(n[1], n[2]);
-    let to = one_link(n[3]);
-    let l = Links { to: to };
-    m.links[at] = l;
-    m
+/// The link of cause 0 in the sender's contents.
+fn cause_link(m: &mut State, row: &Row) {
+    let [_, store, key, link, ..] = row.numbers;
+    let at = (usize::from(store) * 16 + usize::from(key)) % 128;
+    m.links[at] = Links { to: one_link(link) };
 }
 
-// L store key role viewlink keptlink: 0 for none and p + 1 for store p.
-fn viewlinks(mut m: State, n: [u8; 64]) -> State {
-    let at = place_at(n[1], n[2], n[3]);
-    let p = at / 32;
-    let v = at % 32;
-    let mut s = m.shelves[p];
-    s.viewlinks[v] = n[4];
-    s.keptlinks[v] = n[5];
-    m.shelves[p] = s;
-    m
+fn viewlinks(m: &mut State, row: &Row) {
+    let [_, store, key, role, working, checkpointed, ..] = row.numbers;
+    let place = Place::new(store, key, role);
+    let shelf = &mut m.shelves[place.p];
+    shelf.viewlinks[place.v] = working;
+    shelf.keptlinks[place.v] = checkpointed;
 }
 
-// F store key role records acks updates uacks.
-fn copies(mut m: State, n: [u8; 64]) -> State {
-    let at = place_at(n[1], n[2], n[3]);
-    m.records[at] = n[4];
-    m.acks[at] = n[5];
-    m.updates[at] = n[6];
-    m.uacks[at] = n[7];
-    m
+fn copies(m: &mut State, row: &Row) {
+    let [_, store, key, role, records, acks, updates, uacks, ..] = row.numbers;
+    let at = Place::new(store, key, role).number();
+    m.records[at] = records;
+    m.acks[at] = acks;
+    m.updates[at] = updates;
+    m.uacks[at] = uacks;
 }
 
-// T kind fields, as bytes of a book.
-fn stepped(m: State, n: [u8; 64]) -> State {
-    match reader::step_at(&n, 1) {
-        Read::Bad => m,
-        Read::Got(s, _) => {
-            let r = Machine { state: m }.step(s);
-            let after = r.machine;
-            after.state
-        }
+fn step(m: &mut State, row: &Row) {
+    if let Some(step) = row.step() {
+        *m = Machine { state: *m }.step(step).machine.state;
     }
 }
 
-fn drained(m: State) -> State {
-    let d = drain::drain(m);
-    d.state
-}
-
-pub(crate) fn changed(m: State, row: Row) -> State {
-    let n = row.numbers;
-    let letter = row.letter;
-    match letter {
-        b'M' => counts(m, n),
-        b'U' => up(m, n),
-        b'A' => actor(m, n),
-        b'Q' => queue(m, n),
-        b'V' => view(m, n),
-        b'P' => message(m, n),
-        b'R' => repair(m, n),
-        b'E' => entry(m, n),
-        b'S' => contents(m, n),
-        b'C' => cause_link(m, n),
-        b'L' => viewlinks(m, n),
-        b'N' => notes(m, n),
-        b'F' => copies(m, n),
-        b'T' => stepped(m, n),
-        b'D' => drained(m),
-        b'O' => empty(),
-        _ => m,
+// Stays a match on bytes: the letters are the table's text, and every other byte is a row that changes nothing.
+pub(crate) fn take(m: &mut State, row: &Row) {
+    match row.letter {
+        b'M' => counts(m, row),
+        b'U' => store_up(m, row),
+        b'A' => actor(m, row),
+        b'Q' => queue(m, row),
+        b'V' => view(m, row),
+        b'P' => message(m, row),
+        b'R' => repair(m, row),
+        b'E' => entry(m, row),
+        b'S' => contents(m, row),
+        b'C' => cause_link(m, row),
+        b'L' => viewlinks(m, row),
+        b'N' => notes(m, row),
+        b'F' => copies(m, row),
+        b'T' => step(m, row),
+        b'D' => *m = drain::drain(*m).state,
+        b'O' => *m = Machine::empty().state,
+        _ => {}
     }
 }

@@ -1,20 +1,18 @@
-// Values that no run reaches, made by hand slot by slot from the table on standard input, whose head gives its
-// form. Each case is printed in a line: its name, and what the calls answer.
+//! Values that no run reaches, made by hand slot by slot from the table on standard input, whose head gives its
+//! form. Each case is printed in a line: its name, and what the calls answer.
 
 #![tactic(auto)]
 
 use arrayvec::ArrayVec;
 use std::io;
-use std::io::Write;
 
 mod ask;
 mod change;
-mod print;
 mod row;
 mod table;
 
 fn main(rt: HostRuntime) -> io::Result<()> {
     let mut out = io::writer(&rt);
     let table: ArrayVec<u8, 32768> = edge::up_to(rt.reader())?;
-    table::read(&mut out, table.as_slice())
+    table::answer(&mut out, table.as_slice())
 }

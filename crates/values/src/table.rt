@@ -1,105 +1,48 @@
-// The table, read byte by byte.
+//! The table: a line is a comment, a base or a case.
+
 use crate::row::Row;
-use crate::{ask, change, print, row};
+use crate::{ask, change};
 use protocol::State;
 use std::io;
 use std::io::Write;
 
-// What the byte behind this one stands in, as a byte that begins it: a new line, a comment, a base, a name (a
-// letter), or the rows of a case.
-fn follows(part: u8, byte: u8) -> u8 {
-    if byte == b'\n' {
-        return b'\n';
+/// The state that a base's rows come to, from setup M.
+fn based(rows: &[u8]) -> State {
+    let mut m = change::fresh();
+    for row in rows.split(|&b| b == b';' || b == b'\n') {
+        change::take(&mut m, &Row::read(row));
     }
-    if part == b'\n' {
-        return opens(byte);
-    }
-    if part == b'a' && byte == b':' {
-        return b':';
-    }
-    part
+    m
 }
 
-fn opens(byte: u8) -> u8 {
-    match byte {
-        b'#' => b'#',
-        b'=' => b'=',
-        _ => b'a',
+/// A case's name is printed as it stands, up to its colon, then what each of its rows asks. A row behind which the table ends is none.
+fn case<W: Write>(out: &mut W, base: &State, line: &[u8]) -> io::Result<()> {
+    let colon = line.iter().skip(1).position(|&b| b == b':');
+    let (name, rows) = line.split_at(colon.map_or(line.len(), |at| at + 2));
+    out.write_all(name)?;
+    let mut m = *base;
+    for row in rows.split_inclusive(|&b| b == b';' || b == b'\n') {
+        if let Some((b';' | b'\n', text)) = row.split_last() {
+            let row = Row::read(text);
+            ask::answer(out, &m, &row)?;
+            change::take(&mut m, &row);
+        }
     }
-}
-
-// A name is printed as it is read, and a case ends its line.
-fn echo<W: Write>(out: &mut W, part: u8, byte: u8) -> io::Result<()> {
-    if part == b'a' {
-        print::byte(out, byte)?;
-    }
-    if part == b':' && byte == b'\n' {
-        print::byte(out, byte)?;
-    }
-    if part == b'\n' && opens(byte) == b'a' && byte != b'\n' {
-        print::byte(out, byte)?;
+    if rows.ends_with(b"\n") {
+        out.write_all(b"\n")?;
     }
     Ok(())
 }
 
-// A row is done: what it asks is answered, in a case, and what it changes is changed.
-fn applied<W: Write>(out: &mut W, m: State, row: Row, part: u8) -> io::Result<State> {
-    if part == b':' {
-        ask::answered(out, m, row)?;
-    }
-    Ok(change::changed(m, row))
-}
-
-fn written<W: Write>(out: &mut W, m: State, row: Row, part: u8, byte: u8) -> io::Result<State> {
-    match byte {
-        b';' | b'\n' => applied(out, m, row, part),
-        _ => Ok(m),
-    }
-}
-
-// The state behind a byte: a base starts from setup M, a case from the base.
-fn stated<W: Write>(
-    out: &mut W,
-    base: State,
-    m: State,
-    row: Row,
-    part: u8,
-    byte: u8,
-) -> io::Result<State> {
-    if part == b':' {
-        return written(out, m, row, part, byte);
-    }
-    if part == b'=' {
-        return written(out, m, row, part, byte);
-    }
-    if follows(part, byte) == b'=' {
-        return Ok(change::fresh());
-    }
-    Ok(base)
-}
-
-// The base behind a byte: what a base's line comes to.
-fn based(base: State, m: State, part: u8, byte: u8) -> State {
-    if part == b'=' && byte == b'\n' {
-        return m;
-    }
-    base
-}
-
-pub(crate) fn read<W: Write>(out: &mut W, table: &[u8]) -> io::Result<()> {
+/// Answers every case from the base before it.
+pub(crate) fn answer<W: Write>(out: &mut W, table: &[u8]) -> io::Result<()> {
     let mut base = change::fresh();
-    let mut m = base;
-    let mut row = row::lettered(b' ');
-    let mut part = b'\n';
-    let mut i: usize = 0;
-    while i < table.len() {
-        let byte = table[i];
-        m = stated(out, base, m, row, part, byte)?;
-        base = based(base, m, part, byte);
-        echo(out, part, byte)?;
-        row = row::fed(row, byte);
-        part = follows(part, byte);
-        i += 1;
+    for line in table.split_inclusive(|&b| b == b'\n') {
+        match line.first() {
+            None | Some(b'#' | b'\n') => {}
+            Some(b'=') => base = based(line),
+            Some(_) => case(out, &base, line)?,
+        }
     }
     Ok(())
 }

@@ -1,9 +1,0 @@
--- `inspect::views::up_mask` is safe and ends: `p` rises to 8. Assumes nothing.
-use Rattle.std.proofs.Common.{◌-◌}
-use Rattle.inspect.proofs.views.up_mask.Given as goal
-
-abbrev pub invariant-loop-p : goal.invariant-loop-p
-invariant-loop-p l = Unit {0}
-
-abbrev pub decreases-loop-p : goal.decreases-loop-p
-decreases-loop-p l = 8 - l.p
