@@ -1,5 +1,5 @@
 #!/bin/sh
-# Plants each of document 01's five easy ways to get it wrong, two of a store with checkpoints and one
+# Plants each of five easy ways to get a rule wrong, two of a store with checkpoints and one
 # of a network that repeats, in a copy of the peer, one at a time, and checks that the comparison
 # finds it.
 #

@@ -1,4 +1,4 @@
-/* Each call once: on document 01's example, and where it is refused, which leaves everything that was lent. */
+/* Each call once: on the example book, and where it is refused, which leaves everything that was lent. */
 #include <stdio.h>
 #include <string.h>
 

@@ -1,6 +1,6 @@
 /* The proved recorder for C and C++. Link target/staticlib/libtautlichen.a, which `.ci/staticlib tautlichen_c tautlichen` writes.
  *
- * Each call is a function of a book, the machine's whole history, as document 01 lays its bytes out. It answers 0, or the number
+ * Each call is a function of a book, the machine's whole history, whose bytes docs/BOOK.md lays out. It answers 0, or the number
  * of its refusal: then nothing is written. Bytes of a lent buffer behind what is written stay as they were.
  *
  * No pointer is null, not even one whose length is 0, each points to as many bytes as its length says, and what is lent to be

@@ -1,4 +1,4 @@
-//! The test for a broken machine value. Document 01's list is complete: nothing else is broken.
+//! The test for a broken machine value. The list of what is broken is complete: nothing else is.
 
 use crate::machine::{
     contains, members, setup_is_legal, Actor, ActorSetup, Holding, Interaction, Machine, Phase,
@@ -6,7 +6,7 @@ use crate::machine::{
 };
 
 impl Machine {
-    /// Whether this value is none that document 01 allows. The empty machine is allowed.
+    /// Whether this value is none that the rules allow. The empty machine is allowed.
     pub fn is_broken(&self) -> bool {
         *self != Machine::default() && !self.is_sound()
     }

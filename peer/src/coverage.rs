@@ -16,7 +16,7 @@ use crate::step::{Step, KINDS};
 use crate::text::kind_name;
 use crate::walk::Walk;
 
-/// The answers that the documents allow to each kind, kind 1 first.
+/// The answers that the rules allow to each kind, kind 1 first.
 const POSSIBLE: [&[u8]; KINDS as usize] = [
     &[0, 2, 3, 4, 8, 9],
     &[0, 2, 7],
@@ -208,7 +208,7 @@ impl Coverage {
         self.events[event as usize] += usize::from(met);
     }
 
-    /// What document 01 allows and these books don't show.
+    /// What the rules allow and these books don't show.
     fn missing(&self) -> Vec<String> {
         let mut missing = Vec::new();
         for (kind, (possible, counts)) in (1..).zip(POSSIBLE.iter().zip(&self.answers)) {
@@ -245,7 +245,7 @@ impl fmt::Display for Coverage {
 }
 
 impl Coverage {
-    /// One row for each kind, one column for each answer; a dot where document 01 has none.
+    /// One row for each kind, one column for each answer; a dot where the rules have none.
     fn answer_table(&self, out: &mut fmt::Formatter) -> fmt::Result {
         const COLUMNS: [u8; 9] = [0, 2, 3, 4, 5, 6, 7, 8, 9];
         write!(out, "{:<22}", "answers")?;

@@ -1,4 +1,4 @@
-//! A second recorder, written from the documents alone, to test the proved one against.
+//! A second recorder, written apart from the proved code, to test the proved one against.
 //!
 //! Data flows one way: bytes, [`book`], [`step`]s, [`machine`], what the [`programs`] print.
 //! Above them a walk is told as its [`lineage`], and checked by the [`pair`] rule.

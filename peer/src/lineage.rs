@@ -1,4 +1,4 @@
-//! The walk of a key as a PROV-N document, document 02's K2.
+//! The walk of a key as a PROV-N document.
 
 use crate::machine::{members, Machine, View};
 use crate::programs;

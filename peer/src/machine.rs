@@ -1,7 +1,7 @@
 //! The machine: what views, stores, actors and the coordinator hold, and what is in flight.
 //!
 //! Every slot is there from the start and blank until it is used, so that a broken machine
-//! value can be written down as document 01 describes it. Nothings are `None`.
+//! value can be written down as it is. Nothings are `None`.
 
 use std::mem;
 
@@ -238,7 +238,7 @@ impl ActorSetup {
     }
 }
 
-/// Document 01's rule for setups.
+/// Which setups are legal.
 pub fn setup_is_legal(stores: u8, actors: &[ActorSetup]) -> bool {
     (2..=MAX_STORES).contains(&stores.into())
         && (2..=MAX_ACTORS).contains(&actors.len())

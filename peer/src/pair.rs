@@ -1,4 +1,4 @@
-//! The pair rule, document 02's K10: whether a forecast was made of weights and a scaler that
+//! The pair rule: whether a forecast was made of weights and a scaler that
 //! belong together.
 
 use crate::machine::{contains, Machine, Record, View};

@@ -1,4 +1,4 @@
-//! The provenance store of the first PReP, document 003's, as document 02's K7 asks for it.
+//! The provenance store of the first PReP, the protocol of 2004.
 //!
 //! It stands beside the recorder and shares nothing with it: [`messages`] come in as bytes, the
 //! store here takes them one after another, and the [`program`] prints its answers and tables.

@@ -11,7 +11,7 @@ use crate::walk::Walk;
 /// Standard input longer than this is refused as malformed.
 pub const MAX_INPUT: usize = 65_536;
 
-/// Document 01's program: the refusal, or one line of counts and one for each view.
+/// What the recorder prints: the refusal, or one line of counts and one for each view.
 pub fn recorder(input: &[u8]) -> String {
     let mut out = String::new();
     let written = match run(input) {

@@ -1,4 +1,4 @@
-//! The refusal numbers of document 01, and those that document 02 adds to what books are about.
+//! The refusal numbers of what books are about.
 
 /// Why a call was refused. Zero, taken, is `Ok`.
 #[derive(Clone, Copy, PartialEq, Eq, Debug)]
@@ -37,7 +37,7 @@ pub enum Refusal {
 }
 
 impl Refusal {
-    /// One more than the highest number of document 01, for tables indexed by the answer.
+    /// One more than the highest number that a step or a walk answers, for tables indexed by the answer.
     pub const NUMBERS: usize = 14;
 
     /// Refuses if the condition holds, so that a rule reads as its list of refusals.
@@ -50,7 +50,7 @@ impl Refusal {
     }
 }
 
-/// The number that document 01 gives to an outcome.
+/// The number of an outcome.
 pub fn number<T>(outcome: &Result<T, Refusal>) -> u8 {
     match outcome {
         Ok(_) => 0,

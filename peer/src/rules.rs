@@ -1,6 +1,6 @@
 //! The rules of the eighteen steps: the refusals in the order of their numbers, then the effect.
 //!
-//! A line marked `easy way N` is where the Nth of document 01's easy ways to get it wrong
+//! A line marked `easy way N` is where the Nth of five easy ways to get a rule wrong
 //! would go wrong, one marked `checkpoint N` where a store would promise what a crash takes away,
 //! one marked `duplicate` where a sixteenth copy would be counted; `mutants.sh` breaks each of them
 //! in turn.

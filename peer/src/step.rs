@@ -51,7 +51,7 @@ impl Field {
     }
 }
 
-/// The fields of a kind in the documents' order, or nothing for an unknown kind.
+/// The fields of a kind in the book's order, or nothing for an unknown kind.
 pub fn fields(kind: u8) -> Option<&'static [Field]> {
     use Field::*;
     match kind {
@@ -72,7 +72,7 @@ impl Step {
         self.values().0
     }
 
-    /// The kind's number and the fields in the documents' order.
+    /// The kind's number and the fields in the book's order.
     pub fn values(&self) -> (u8, Vec<u32>) {
         fn at(store: u8, view: View) -> Vec<u32> {
             vec![store.into(), view.key.into(), view.role.into()]

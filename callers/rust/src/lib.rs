@@ -1,6 +1,6 @@
 //! The proved recorder, behind safe calls.
 //!
-//! Each call is a function of a book, the machine's whole history. A refusal carries document 01's number, and writes nothing;
+//! Each call is a function of a book, the machine's whole history. A refusal carries its number (docs/REFUSALS.md), and writes nothing;
 //! bytes of a lent buffer behind what is written stay as they were.
 
 use std::fmt;
@@ -14,7 +14,7 @@ pub const KEYS: usize = 16;
 /// Room for every PROV-N document.
 pub const PROVN: usize = 6247;
 
-/// Why a call was refused: document 01's number, never 0.
+/// Why a call was refused: the number of docs/REFUSALS.md, never 0.
 #[derive(Clone, Copy, Debug, PartialEq, Eq)]
 pub struct Refusal(pub u8);
 

@@ -1,4 +1,4 @@
-//! The six calls: document 01's example and its marked run W12, and what each refusal leaves.
+//! The six calls: the example book and the marked run W12, and what each refusal leaves.
 
 use tautlichen::{drain, lineage, list, run, walk, Drained, Refusal, Walked, KEYS, PROVN, TEXT};
 

@@ -149,7 +149,7 @@ impl Coverage {
         self.events[event as usize] += usize::from(met);
     }
 
-    /// What document 02 allows and these files don't show.
+    /// What the store's rules allow and these files don't show.
     fn missing(&self) -> Vec<String> {
         let mut missing = Vec::new();
         for (kind, name) in NAMES.iter().enumerate() {

@@ -1,4 +1,4 @@
-//! The messages of document 003's Figure 3, and their bytes.
+//! The messages of the first PReP, and their bytes.
 
 use std::fmt;
 

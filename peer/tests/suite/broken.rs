@@ -1,5 +1,4 @@
-//! Document 01's list of what makes a machine value broken, over both states of a store, and what
-//! readings 7 adds.
+//! What makes a machine value broken, over both states of a store, and what doesn't.
 
 use crate::common::{run, M, S, SENDER_MOVES};
 use peer::machine::{
@@ -229,7 +228,7 @@ fn queues_that_dont_fit_the_phases() {
     ]);
 }
 
-/// Document 01's words about queues, with a search for each view.
+/// What has to hold of the queues, with a search for each view.
 fn queues_fit(machine: &Machine) -> bool {
     let stands = |actor: &Actor, view| actor.queue.iter().filter(|&&queued| queued == view).count();
     let fits = |view: View| {
@@ -272,7 +271,7 @@ fn scramble(machine: &mut Machine, random: &mut Random) {
 }
 
 #[test]
-fn what_readings_7_lets_pass() {
+fn what_is_odd_and_not_broken() {
     assert_sound(&[
         |m| m.interactions[1].application = Some(Application { own: 2, data: 99 }),
         |m| record(m, 0, 0).store = 1,

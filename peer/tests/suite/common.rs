@@ -4,14 +4,14 @@ use peer::book;
 use peer::machine::Machine;
 use peer::text;
 
-/// Document 01's setup M.
+/// Setup M of the marked runs.
 pub const M: &str = "
     stores 3
     actor home 0 list 0 2
     actor home 1 list 1 2
 ";
 
-/// Document 01's send S.
+/// Step S of the marked runs.
 pub const S: &str = "send 0 1 own 0 data 7 causes -\n";
 
 /// After S: the sender moves to store 2, which takes its record, makes a checkpoint and so

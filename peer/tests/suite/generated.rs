@@ -1,4 +1,4 @@
-//! The generated books, and what the documents promise of every one of them.
+//! The generated books, and what is promised of every one of them.
 
 use peer::book::{self, Book, MAX_STEPS};
 use peer::coverage::Coverage;

@@ -1,4 +1,4 @@
-//! Walks as PROV-N, by document 02's K2.
+//! Walks as PROV-N.
 
 use std::collections::BTreeSet;
 

@@ -1,4 +1,4 @@
-//! The tests of the peer: document 01's runs and rules, the text form, the examples, the books.
+//! The tests of the peer: the marked runs, the rules, the text form, the examples, the books.
 
 mod broken;
 mod check;

@@ -1,4 +1,4 @@
-//! Document 01's marked runs W1 to W12, with the numbers that document 02 gives them.
+//! The marked runs W1 to W12 of docs/RUNS.md.
 
 use crate::common::{run, M, S};
 use peer::book;

@@ -1,4 +1,4 @@
-//! The pair rule, by document 02's K10.
+//! The pair rule.
 
 use peer::compare::Words;
 use peer::generate::generate_pairs;

@@ -1,4 +1,4 @@
-//! The store of the first PReP, by document 02's K7 and document 003.
+//! The store of the first PReP.
 
 use peer::prep::coverage::Coverage;
 use peer::prep::generate::generate;
