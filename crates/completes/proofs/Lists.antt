@@ -89,3 +89,7 @@ module _ {T : Type 0} (held : T → Bool) where
   unfolding first
   first_held none [] e h = e
   first_held none (x ∷ l) e h = rw e h.0
+
+  pub first_one : (none x : T) → held none ≡ false → first held none (x ∷ []) ≡ x
+  unfolding first
+  first_one none x e = rw e

@@ -4,14 +4,19 @@ ghost use Rattle.std.specs.Fmt.{decimal};
 ghost use Rattle.std.specs.List.{flat_map};
 ghost use Rattle.std.specs.Io.KnownBytes.{Appends};
 
+use arrayvec::ArrayVec;
 use std::io::Write;
 use std::{fmt, io};
 
-/// What is said, and a line feed.
+/// What is said, and a line feed: in one write where the line has at most 64 bytes, so that it is written whole or not at all.
 pub fn line<W: Write, T: fmt::Display + Drop>(out: &mut W, said: T) -> io::Result<()>
     ensures { OnOk result (IfSome (T.output said) (λ text. Appends (W.contents out.old) (W.contents out.new) (text ++ 10 ∷ []))) }
 {
-    writeln!(out, "{said}")
+    let mut text: ArrayVec<u8, 64> = ArrayVec::new();
+    match writeln!(text, "{said}") {
+        Ok(()) => out.write_all(text.as_slice()),
+        Err(_) => writeln!(out, "{said}"),
+    }
 }
 
 /// Numbers on a line, a blank before each.

@@ -20,7 +20,7 @@ fn document(book: &[u8], key: u8, drained: bool, text: &mut [u8]) -> Result<u16,
 fn main(rt: HostRuntime) -> io::Result<()> {
     let mut out = io::writer(&rt);
     let Some(book) = edge::book(rt.reader())? else {
-        return edge::line(&mut out, Refusal::MalformedBook);
+        return programs::refuse(&mut out, Refusal::MalformedBook.into());
     };
     let mut word = [0; 8];
     let key = programs::key_of(edge::word(&rt, 1, &mut word));
@@ -29,6 +29,6 @@ fn main(rt: HostRuntime) -> io::Result<()> {
     let mut text = [0; 6247];
     match document(book.as_slice(), key, drained, &mut text) {
         Ok(n) => out.write_all(&text[..usize::from(n)]),
-        Err(refusal) => edge::line(&mut out, refusal),
+        Err(refusal) => programs::refuse(&mut out, refusal.into()),
     }
 }

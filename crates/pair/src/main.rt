@@ -18,15 +18,15 @@ fn main(rt: HostRuntime) -> io::Result<()> {
     // 0 is no rule either. An unknown one is refused before the book is read.
     let rule = edge::number(edge::word(&rt, 1, &mut word)).unwrap_or(0);
     if let Err(refusal) = Rule::try_from(rule) {
-        return edge::line(&mut out, refusal);
+        return programs::refuse(&mut out, refusal.into());
     }
     let Some(book) = edge::book(rt.reader())? else {
-        return edge::line(&mut out, Refusal::MalformedBook);
+        return programs::refuse(&mut out, Refusal::MalformedBook.into());
     };
     let key = programs::key_of(edge::word(&rt, 2, &mut word));
     let drained = edge::word(&rt, 3, &mut word) == "drained";
     match check(book.as_slice(), rule, key, drained) {
         Ok(passes) => edge::line(&mut out, if passes { "yes" } else { "no" }),
-        Err(refusal) => edge::line(&mut out, refusal),
+        Err(refusal) => programs::refuse(&mut out, refusal.into()),
     }
 }

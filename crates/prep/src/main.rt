@@ -3,7 +3,7 @@
 
 #![tactic(auto)]
 
-ghost use Rattle.std.specs.Prelude.{◌≤◌, length, ◌≡◌, IfOk};
+ghost use Rattle.std.specs.Prelude.{◌≤◌, length, ◌≡◌};
 ghost use Rattle.activities.specs.Form.{count_of, well_formed, messages_from};
 ghost use Rattle.activities.specs.Run.{after};
 ghost use Rattle.activities.specs.Store.{empty_store};
@@ -33,27 +33,31 @@ fn well_formed(s: &[u8]) -> bool
     at == s.len()
 }
 
-/// The store after the messages; each answer is printed.
+/// The store after the messages; each answer is printed, up to the first that can't be.
 #[tactic(auto, using(crate::proofs::Reading::ran_end, crate::proofs::Reading::ran_more, crate::proofs::Reading::ran_start))]
-fn run(out: &impl Print, s: &[u8]) -> io::Result<Store>
+fn run(out: &impl Print, s: &[u8]) -> (Store, io::Result<()>)
     requires { 2 ≤ length s.now }
-    ensures { IfOk result (λ store. store ≡ after empty_store (messages_from s.now (count_of s.now) 2)) }
+    ensures { result.0 ≡ after empty_store (messages_from s.now (count_of s.now) 2) }
 {
     let mut store = first_store::empty();
+    let mut told = Ok(());
     let mut at = 2;
     for _ in 0..bytes::count(s) {
         let received = first_store::receive(store, bytes::message(s, at));
-        println!(out; "{}", Answer(received.answer))?;
+        if told.is_ok() {
+            told = println!(out; "{}", Answer(received.answer));
+        }
         store = received.store;
         at = bytes::next(s, at).unwrap_or(0);
     }
-    Ok(store)
+    (store, told)
 }
 
 fn serve(out: &impl Print, s: &[u8]) -> io::Result<()>
     requires { 2 ≤ length s.now }
 {
-    let store = run(out, s)?;
+    let (store, told) = run(out, s);
+    told?;
     print!(out; "{}", Tables(&store))
 }
 

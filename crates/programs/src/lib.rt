@@ -1,12 +1,16 @@
-//! What the programs share over the protocol: the machine that they are asked of, and the key.
+//! What the programs share over the protocol: the machine that they are asked of, the key, and the line of a refusal.
 #![tactic(auto)]
 
-ghost use Rattle.std.specs.Prelude.{◌≡◌, ◌≢◌, ◌<◌, ℕ};
+ghost use Rattle.std.specs.Prelude.{◌≡◌, ◌≢◌, ◌<◌, ℕ, OnOk};
 ghost use Rattle.std.specs.Fmt.{decimal};
+ghost use Rattle.std.specs.Io.KnownBytes.{Appends};
+ghost use Rattle.protocol.specs.Listing.{refused_line};
 ghost use Rattle.programs.specs.After.{OneMachine, machine_after, told_machine};
 
 use protocol::State;
 use protocol::refusal::Refusal;
+use std::io;
+use std::io::Write;
 
 /// The machine after the run of a book, and after a drain where one is asked for; refused with the run's own, then the drain's.
 #[tactic(auto, unfolding(crate::specs::After::machine_after))]
@@ -31,6 +35,13 @@ pub fn key_of(word: &str) -> u8
     ensures none { result ≢ 255 → word.now ≡ decimal result }
 {
     edge::number(word).unwrap_or(255)
+}
+
+/// Prints `refused N`, a line of its own, in one write.
+pub fn refuse<W: Write>(out: &mut W, number: u8) -> io::Result<()>
+    ensures { OnOk result (Appends (W.contents out.old) (W.contents out.new) (refused_line number)) }
+{
+    out.write_all(listing::refused(number).as_slice())
 }
 
 /// What is told of a machine after a book leaves nothing out.

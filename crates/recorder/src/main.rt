@@ -16,11 +16,12 @@ fn listing_of(book: &[u8]) -> Result<Text, Refusal> {
 
 fn main(rt: HostRuntime) -> io::Result<()> {
     let mut out = io::writer(&rt);
-    let Some(book) = edge::book(rt.reader())? else {
-        return edge::line(&mut out, Refusal::MalformedBook);
+    let listed = match edge::book(rt.reader())? {
+        Some(book) => listing_of(book.as_slice()),
+        None => Err(Refusal::MalformedBook),
     };
-    match listing_of(book.as_slice()) {
+    match listed {
         Ok(text) => out.write_all(text.as_slice()),
-        Err(refusal) => edge::line(&mut out, refusal),
+        Err(refusal) => programs::refuse(&mut out, refusal.into()),
     }
 }
