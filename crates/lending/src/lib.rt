@@ -1,13 +1,15 @@
-//! What is written for a caller: bytes over the start of a buffer that it lends, and texts in the making.
+//! What is written for a caller: bytes over the start of a buffer that it lends, texts in the making, and the bytes of an answer.
 
 #![tactic(auto)]
 
+mod bytes;
 pub mod text;
 
 ghost use Rattle.std.specs.Prelude.{◌≡◌, min, length, take};
 ghost use Rattle.protocol.specs.Lent.{lent, short_no, over};
 ghost use Rattle.protocol.specs.Refusal.{answer};
 
+pub use bytes::Bytes;
 use protocol::refusal::Refusal;
 
 /// The bytes go over the start of the buffer, or as many of them as it has room for; those behind stay.

@@ -9,15 +9,19 @@ ghost use Rattle.protocol.specs.Slots.{lasting_viewlink};
 ghost use Rattle.protocol.specs.Listing.{decimal, refused_line, counts_line, link_text, place_text, view_line, lines_to, listing_of};
 
 use arrayvec::ArrayVec;
+use lending::Bytes;
 use lending::text::{append, append_number};
 use protocol::{State, View};
 
 /// The bytes of a listing, of which there are 990 at most, or of a refusal.
-pub type Text = ArrayVec<u8, 1024>;
+pub type Text = Bytes<1024>;
+
+/// A text in the making.
+type Draft = ArrayVec<u8, 1024>;
 
 /// A number and the space behind it.
 #[tactic(auto, unfolding(lending::specs::Text::wrote), using(lending::proofs::Appending::wrote_append))]
-fn column(text: &mut Text, n: u16)
+fn column(text: &mut Draft, n: u16)
     ensures { text.new.items ≡ wrote 1024 text.old.items (decimal n ++ (32 ∷ [])) }
 {
     append_number(text, n);
@@ -26,7 +30,7 @@ fn column(text: &mut Text, n: u16)
 
 /// Stores, actors, interactions, steps, steps taken.
 #[tactic(auto, unfolding(lending::specs::Text::wrote, protocol::specs::Listing::counts_line), using(lending::proofs::Appending::wrote_append))]
-fn counts(text: &mut Text, m: &State, steps: u16, taken: u16)
+fn counts(text: &mut Draft, m: &State, steps: u16, taken: u16)
     ensures { text.new.items ≡ wrote 1024 text.old.items (counts_line m.now.stores m.now.actors m.now.made steps taken) }
 {
     column(text, u16::from(m.stores));
@@ -39,7 +43,7 @@ fn counts(text: &mut Text, m: &State, steps: u16, taken: u16)
 
 /// A viewlink, or `-` if none: 0 for none, and p + 1 for store p.
 #[tactic(auto, unfolding(protocol::specs::Listing::link_text), using(unbroken::proofs::Tests::tests))]
-fn link(text: &mut Text, held: u8)
+fn link(text: &mut Draft, held: u8)
     ensures { text.new.items ≡ wrote 1024 text.old.items (link_text held) }
 {
     if held == 0 {
@@ -62,7 +66,7 @@ fn kept(m: &State, store: u8, v: usize) -> u8
 
 /// A view's current store, and the viewlink that the store holds; in phase 0 both are `-`.
 #[tactic(auto, unfolding(lending::specs::Text::wrote, protocol::specs::Listing::place_text), using(lending::proofs::Appending::wrote_append, unbroken::proofs::Tests::tests))]
-fn place(text: &mut Text, w: &View, held: u8)
+fn place(text: &mut Draft, w: &View, held: u8)
     ensures { text.new.items ≡ wrote 1024 text.old.items (place_text w.now.phase w.now.store held) }
 {
     if w.phase == 0 {
@@ -76,7 +80,7 @@ fn place(text: &mut Text, w: &View, held: u8)
 
 /// The line of a view that is made, nothing for another: key, role, phase, current store, viewlink.
 #[tactic(auto, unfolding(lending::specs::Text::wrote, protocol::specs::Listing::view_line, protocol::specs::Listing::line_of), using(lending::proofs::Appending::wrote_append, unbroken::proofs::Tests::tests))]
-fn line(text: &mut Text, m: &State, v: u8)
+fn line(text: &mut Draft, m: &State, v: u8)
     requires { v < 32 }
     ensures { text.new.items ≡ wrote 1024 text.old.items (view_line m.now v) }
 {
@@ -95,11 +99,11 @@ fn line(text: &mut Text, m: &State, v: u8)
 pub fn refused(number: u8) -> Text
     ensures { result.items ≡ refused_line number }
 {
-    let mut text = Text::new();
+    let mut text = Draft::new();
     append(&mut text, b"refused ");
     append_number(&mut text, u16::from(number));
     append(&mut text, b"\n");
-    text
+    Text::from(&text)
 }
 
 /// The listing of a machine, broken or not, after a run of so many steps, of which so many were taken.
@@ -107,12 +111,12 @@ pub fn refused(number: u8) -> Text
 pub fn listing(m: &State, steps: u16, taken: u16) -> Text
     ensures { result.items ≡ listing_of m.now steps taken }
 {
-    let mut text = Text::new();
+    let mut text = Draft::new();
     counts(&mut text, m, steps, taken);
     for v in 0..32 {
         line(&mut text, m, v);
     }
-    text
+    Text::from(&text)
 }
 
 /// The laws of the listing: each fits its text, and what is written is the listing.

@@ -13,6 +13,8 @@ ghost use Rattle.walk.specs.Told.{OneWalk, told_met, told_walk};
 
 use arrayvec::ArrayVec;
 use broken::is_broken;
+use lending::Bytes;
+use met::Trail;
 pub use met::Walk;
 use protocol::refusal::Refusal;
 use protocol::sets::is_in;
@@ -66,7 +68,7 @@ fn hop(m: &State, key: u8, link: u8, cause: u8) -> u8
 
 /// The sender record of a key that is not met is looked up by a link, and then each of its causes.
 #[cycle(walk)]
-fn visit(m: &State, walk: &mut Walk, key: u8, link: u8) -> Result<(), Refusal>
+fn visit(m: &State, walk: &mut Trail, key: u8, link: u8) -> Result<(), Refusal>
     requires low { key < 16 }
     requires ready { Ready walk.old key }
     ensures kept { OnOk result (Kept walk.new) }
@@ -82,7 +84,7 @@ fn visit(m: &State, walk: &mut Walk, key: u8, link: u8) -> Result<(), Refusal>
 
 /// For each cause that is not met, rising, its receipt is looked up, and the walk goes on from that one's record.
 #[cycle(walk)]
-fn causes(m: &State, walk: &mut Walk, key: u8, link: u8) -> Result<(), Refusal>
+fn causes(m: &State, walk: &mut Trail, key: u8, link: u8) -> Result<(), Refusal>
     requires low { key < 16 }
     requires there { (1 ≤ link) × (link ≤ 8) }
     requires kept { Kept walk.old }
@@ -111,12 +113,15 @@ pub fn walk(m: &State, key: u8) -> Result<Walk, Refusal>
     if m.made <= key {
         return Err(Refusal::NotInMachine);
     }
-    let mut walk = Walk {
+    let mut walk = Trail {
         keys: ArrayVec::new(),
         lookups: 0,
     };
     visit(m, &mut walk, key, m.views[key as usize * 2].store + 1)?;
-    Ok(walk)
+    Ok(Walk {
+        keys: Bytes::from(&walk.keys),
+        lookups: walk.lookups,
+    })
 }
 
 /// What is told of a walk leaves nothing out.

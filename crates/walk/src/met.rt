@@ -1,20 +1,37 @@
-// What a walk has met so far, which is what it answers.
+// What a walk has met so far, and what it answers.
 ghost use Rattle.std.specs.Prelude.{◌≡◌, ◌<◌, ◌&&◌, false, get_or, length};
 ghost use Rattle.protocol.specs.Words.{bit};
 ghost use Rattle.protocol.specs.Walk.{added, is_due, looked_up};
 ghost use Rattle.walk.specs.Told.{told_met};
 
 use arrayvec::ArrayVec;
+use lending::Bytes;
 use protocol::sets::is_in;
+use std::marker::Model;
 
 /// What a walk answers: the keys met, in the order first met, and how many store entries were looked up.
-#[derive(Drop)]
+#[derive(Clone, Copy)]
 pub struct Walk {
-    pub keys: ArrayVec<u8, 16>,
+    pub keys: Bytes<16>,
     pub lookups: u8,
 }
 
-impl Walk {
+/// A walk on its way. A clause sees what it would answer now.
+#[derive(Drop)]
+pub(crate) struct Trail {
+    pub(crate) keys: ArrayVec<u8, 16>,
+    pub(crate) lookups: u8,
+}
+
+impl Model for Trail {
+    ghost use Rattle.walk.specs.declared.met.Walk.{Walk};
+
+    ghost Value = { Walk };
+
+    ghost view = { λ t. record { keys = t.keys; lookups = t.lookups } };
+}
+
+impl Trail {
     #[tactic(auto, using(crate::proofs::Marks::marked_listed))]
     fn has_met(&self, key: u8) -> bool
         requires { key < 16 }

@@ -1,7 +1,8 @@
--- The walk is the visit from nothing met (Onward).
-use Rattle.std.proofs.Common.{◌<◌, refl, sym, ◌∙◌, arith}
+-- The walk is the visit from nothing met (Onward), and its answer what the walk was seen as.
+use Rattle.std.proofs.Common.{◌<◌, Ok, refl, sym, ap, ◌∙◌, arith}
 use Rattle.std.proofs.lemmas.Result.{err_from_is_err_and}
 use Rattle.unbroken.proofs.Laws.Room.{bounds}
+use Rattle.walk.specs.Told.{told_walk}
 use Rattle.walk.proofs.Onward.{at_first, first_ready, walk_ok, walk_err}
 use Rattle.walk.proofs.walk.Goals as goal
 
@@ -19,4 +20,5 @@ pub returns : goal.returns
 returns c =
     let whole = sym c.is_broken.ensures ∙ c.if-is_broken.false in
     let low : c.args.key < 16 = omega (arith, c.if-m-key.false, (bounds c.args.m.now whole).made16) in
-    walk_ok c.args.m.now c.args.key whole c.if-m-key.false low _ c.visit.new.walk (at_first _ c.new.ensures refl) c.in_ok-visit.ensures.met
+    ap (λ keys. told_walk (Ok (record { keys = keys; lookups = c.walk.inside.lookups }))) c.from.ensures ∙ ap (λ w. told_walk (Ok w)) c.walk.view_is
+    ∙ walk_ok c.args.m.now c.args.key whole c.if-m-key.false low _ c.visit.new.walk (at_first _ c.new.ensures refl) c.in_ok-visit.ensures.met
