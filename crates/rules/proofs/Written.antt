@@ -1,6 +1,7 @@
 -- A list in which the places of one store are written, each alone, and no other: it is `on_places` of what it was.
 use Prim.Native.Nat.{ℕ, suc, ◌+◌, ◌*◌, ◌/◌, ◌%◌, ◌≤◌, ◌<◌}
-use mathlib.Core.Path.{◌≡◌, sym, ap, subst, ◌∙◌}
+use mathlib.Core.Path.{◌≡◌, refl, sym, ap, subst, ◌∙◌}
+use mathlib.Core.Bool.{false}
 use mathlib.Core.List.{List}
 use native.Mathlib.Omega.{arith}
 use native.Mathlib.Decide.{ℕ_discrete, dec_lt}
@@ -9,9 +10,12 @@ use lib.Dec.{eqb}
 use lib.ListN.{length, get_or}
 use lib.Seq.{ext_get_or}
 use borrow.Author.Tests.{eq-eqb, ne_eqb}
-use Rattle.protocol.specs.Words.{pick}
+use Rattle.protocol.specs.Checkpoint.{sent_owed}
+use Rattle.protocol.specs.Rule.{more}
+use Rattle.protocol.specs.Words.{bit, pick}
 use Rattle.protocol.specs.Sweep.{on_places}
 use Rattle.unbroken.proofs.Places.{places_length, places_at}
+use Rattle.unbroken.proofs.Laws.Bits.{bit_none}
 
 -- the places of the store p below v are written
 pub record Written {A : Type 0} (places p : ℕ) (f : ℕ → A → A) (none : A) (l₀ l : List A) (v : ℕ) : Type 0 where
@@ -49,3 +53,16 @@ module _ {A : Type 0} {places p : ℕ} {f : ℕ → A → A} {none : A} {l₀ l 
       let back : at ≡ q * places + u = sym (div-add-mod' at places) in
       ap (λ (i : ℕ). get_or l i none) back
       ∙ (at_place q u hq hu (ℕ_discrete q p) ∙ (sym (places_at places p f none l₀ q u hq hu) ∙ ap (λ (i : ℕ). get_or (on_places places p f none l₀) i none) (sym back))))
+
+-- where nothing is owed each place is what it was
+pub none_owed : (owed p : ℕ) (copies : List ℕ) → length copies ≡ 32 * 8 → owed ≡ 0 → copies ≡ sent_owed owed p copies
+none_owed owed p copies long e =
+    let is : (u : ℕ) → bit owed u ≡ false = λ u. ap (λ (s : ℕ). bit s u) e ∙ bit_none u in
+    all_written {f = λ u n. pick (bit owed u) (more n) n}
+    (record {
+      long = long;
+      here = λ u b. sym (ap (λ t. pick t (more (get_or copies (p * 32 + u) 0)) (get_or copies (p * 32 + u) 0)) (is u));
+      before = λ at b. refl;
+      behind = λ at b. refl;
+    })
+    refl

@@ -15,6 +15,10 @@ pub(crate) fn send_owed(copies: &mut [u8; 256], p: usize, owed: u32)
     requires { p < 8 }
     ensures { copies.new ≡ sent_owed owed p copies.old }
 {
+    // A store that owes nothing is passed over at once.
+    if owed == 0 {
+        return;
+    }
     for v in 0..32 {
         if is_in(owed, v) {
             copies[p * 32 + v] = one_more(copies[p * 32 + v]);
