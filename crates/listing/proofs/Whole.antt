@@ -74,7 +74,7 @@ unfolding refused_line
 refusal_shown n = wrote_whole 1024 [] (refused_line n) (simp length-append (omega (arith, decimal_short n)))
 
 pub one_listing : OneListing
-one_listing m steps taken r s p q = p ∙ sym q
+one_listing m steps taken r s p q = λ i. record { items = (p ∙ sym q) i }
 
 pub one_refusal : OneRefusal
-one_refusal n r s p q = p ∙ sym q
+one_refusal n r s p q = λ i. record { items = (p ∙ sym q) i }

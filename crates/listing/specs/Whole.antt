@@ -22,11 +22,11 @@ ListingLength =
 abbrev pub RefusalShown : Type 0
 RefusalShown = (n : ℕ) → shown (wrote no_text (refused_line n)) ≡ refused_line n
 
--- no two results can both satisfy a promise
+-- no two results can both satisfy a promise, which speaks of a text's bytes
 abbrev pub OneListing : Type 0
 OneListing =
     (m : State) (steps taken : ℕ) (r s : ArrayVec ℕ) →
-    r ≡ wrote no_text (listing_of m steps taken) → s ≡ wrote no_text (listing_of m steps taken) → r ≡ s
+    r.items ≡ listing_of m steps taken → s.items ≡ listing_of m steps taken → r ≡ s
 
 abbrev pub OneRefusal : Type 0
-OneRefusal = (n : ℕ) (r s : ArrayVec ℕ) → r ≡ wrote no_text (refused_line n) → s ≡ wrote no_text (refused_line n) → r ≡ s
+OneRefusal = (n : ℕ) (r s : ArrayVec ℕ) → r.items ≡ refused_line n → s.items ≡ refused_line n → r ≡ s
