@@ -1,3 +1,5 @@
 pub mod Words
 pub mod Meet
 pub mod Marked
+pub mod Rooms
+pub mod Members

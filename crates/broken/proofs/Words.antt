@@ -1,13 +1,11 @@
 -- What chains and equalities of arrays say, in the definitions' words.
-use Rattle.std.proofs.Common.{ℕ, zero, suc, ◌≡◌, ◌<◌, ◌&&◌, ◌↔◌, Bool, true, false, IsTrue, List, [], ◌∷◌, map, length, get_or, replicate, eqb, ltb, refl, sym, ap, add-one, ◌∙◌, arith}
-use Rattle.std.specs.List.{range_with_len, list_all}
-use Rattle.std.proofs.lemmas.List.Folds.{list_all-append, list_all-map}
-use Rattle.std.proofs.lemmas.List.FromFn.{map-range_with_len_more}
+use Rattle.std.proofs.Common.{ℕ, ◌≡◌, ◌<◌, ◌&&◌, ◌↔◌, Bool, true, false, IsTrue, List, [], ◌∷◌, length, get_or, replicate, eqb, ltb, refl, sym, ap, ◌∙◌, arith}
+use Rattle.std.specs.List.{fold, list_all}
 use borrow.Author.Tests.{eq-eqb, eqb-true}
 use lib.Seq.{ext_get_or}
 use lib.ListN.{get_or-replicate}
-use Rattle.protocol.specs.Words.{all, all_below, pick}
-use Rattle.protocol.specs.Broken.{link_fine, note_fine, notes_fine, same_links}
+use Rattle.protocol.specs.Words.{all, pick}
+use Rattle.protocol.specs.Broken.{link_fine, same_links}
 use Rattle.unbroken.proofs.Laws.Bits.{bit_none}
 use Rattle.unbroken.proofs.Laws.Every.{all_at, all_each}
 
@@ -15,20 +13,14 @@ pub and_true : (b : Bool) → (b && true) ≡ b
 and_true true = refl
 and_true false = refl
 
-below_of_map : (n : ℕ) (p : ℕ → Bool) → all_below n p ≡ list_all (λ b. b) (map p (range_with_len 0 n))
-unfolding all_below
-below_of_map zero p = refl
-below_of_map (suc n) p =
-    ap (λ b. b && p n) (below_of_map n p)
-    ∙ sym (ap (λ k. list_all (λ b. b) (map p (range_with_len 0 k))) (sym (add-one n))
-    ∙ (ap (list_all (λ b. b)) (map-range_with_len_more p 0 n n (omega arith))
-    ∙ (list_all-append (λ b. b) (map p (range_with_len 0 n)) (p n ∷ [])
-    ∙ ap (λ b. list_all (λ b. b) (map p (range_with_len 0 n)) && b) (and_true (p n)))))
+-- a chain that ends at no element tests them all
+fold_from : {A : Type 0} (p : A → Bool) (b : Bool) (l : List A) → fold (λ fine x. fine && p x) b l ≡ (b && list_all p l)
+fold_from p b [] = sym (and_true b)
+fold_from p true (x ∷ xs) = fold_from p (p x) xs
+fold_from p false (x ∷ xs) = fold_from p false xs
 
--- a test of every note is one of the range of views
-pub notes_in_range : (may : ℕ → Bool) (owed : ℕ) {r : Bool} → r ≡ list_all (note_fine may owed) (range_with_len 0 32) → r ≡ notes_fine may owed
-unfolding notes_fine
-notes_in_range may owed e = e ∙ sym (below_of_map 32 (note_fine may owed) ∙ list_all-map (λ b. b) (note_fine may owed) (range_with_len 0 32))
+pub fold_all : {A : Type 0} (p : A → Bool) (l : List A) → fold (λ fine x. fine && p x) true l ≡ list_all p l
+fold_all p l = fold_from p true l
 
 ways : (a b : Bool) → (a ≡ true → b ≡ true) → (b ≡ true → a ≡ true) → a ≡ b
 ways true b f g = sym (f refl)

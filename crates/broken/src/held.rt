@@ -1,12 +1,12 @@
 // The stores that are not broken and what they hold: contents, their cause links, notes and viewlinks.
-ghost use Rattle.std.specs.Prelude.{◌≡◌, ◌<◌, ◌||◌, eqb, get_or, leb, ltb, length};
-ghost use Rattle.std.specs.List.{list_all, range_with_len};
-ghost use Rattle.protocol.specs.Broken.{blank_contents, blank_store, contents_fine, held_links_fine, same_contents, note_fine, same_links, store_fine, viewlink_fine};
+ghost use Rattle.std.specs.Prelude.{◌≡◌, ℕ, ◌&&◌, ◌<◌, ◌||◌, eqb, get_or, leb, ltb, length};
+ghost use Rattle.broken.specs.Sets.{store_noted};
+ghost use Rattle.protocol.specs.Broken.{blank_contents, blank_store, contents_fine, held_links_fine, same_contents, notes_fine, same_links, store_fine, viewlink_fine};
 ghost use Rattle.protocol.specs.Slots.{no_entry, no_view, status_number};
-ghost use Rattle.protocol.specs.Words.{all};
+ghost use Rattle.protocol.specs.Words.{all, bit, joined, pick};
 
 use crate::flight::has_entry;
-use protocol::sets::is_in;
+use protocol::sets::with;
 use protocol::{Contents, Links, State, Store, View};
 
 /// Contents that are there are those of the view's record, which has left phase 1.
@@ -93,8 +93,9 @@ fn viewlinks_fine(m: &State, p: usize, links: &[u8; 32]) -> bool
     ensures each { result ≡ all (viewlink_fine m.now.stores m.now.made p) links.now }
     ensures long { length links.now ≡ 32 }
 {
-    links.iter().enumerate().all(|(v, &link)| {
-        link == 0 || link <= m.stores && p < m.stores as usize && v < m.made as usize * 2
+    // The chain ends at no view, so that many are compared at once.
+    links.iter().enumerate().fold(true, |fine, (v, &link)| {
+        fine & (link == 0 || link <= m.stores && p < m.stores as usize && v < m.made as usize * 2)
     })
 }
 
@@ -112,37 +113,65 @@ fn there_or_blank(stores: u8, p: usize, s: &Store) -> bool
     p < stores as usize || blank_store(s)
 }
 
-/// An ack is owed only of a view that may have one.
-fn acks_fine(m: &State, owed: u32) -> bool
-    ensures { result ≡ list_all (note_fine (λ v. leb 2 (get_or m.now.views v no_view).phase) owed) (range_with_len 0 32) }
+/// A set with a view in it, where it is to be.
+fn joined_if(set: u32, v: usize, joins: bool) -> u32
+    requires { v < 32 }
+    ensures { result ≡ pick joins (joined set v) set }
 {
-    owed == 0 || (0..32).all(|v| !is_in(owed, v) || 2 <= m.views[v].phase)
+    if joins { with(set, v) } else { set }
 }
 
-/// So is a uack.
-fn uacks_fine(m: &State, owed: u32) -> bool
-    ensures { result ≡ list_all (note_fine (λ v. leb 1 (status_number (get_or m.now.entries v no_entry).status)) owed) (range_with_len 0 32) }
+/// The views that may have an ack: those that have left phase 1.
+#[tactic(auto, using(crate::proofs::Members::join_end, crate::proofs::Members::join_start, crate::proofs::Members::join_step))]
+fn ready(m: &State) -> u32
+    ensures { (v : ℕ) → bit result v ≡ (ltb v 32 && leb 2 (get_or m.now.views v no_view).phase) }
 {
-    owed == 0 || (0..32).all(|v| !is_in(owed, v) || has_entry(&m.entries[v]))
+    let mut set = 0;
+    for v in 0..32 {
+        set = joined_if(set, v, 2 <= m.views[v].phase);
+    }
+    set
 }
 
-fn store_fine(m: &State, p: usize, s: &Store) -> bool
-    ensures { result ≡ store_fine m.now.stores m.now.made m.now.views m.now.entries p s.now }
+/// .. and a uack: those that have an entry.
+#[tactic(auto, using(crate::proofs::Members::join_end, crate::proofs::Members::join_start, crate::proofs::Members::join_step))]
+fn entered(m: &State) -> u32
+    ensures { (v : ℕ) → bit result v ≡ (ltb v 32 && leb 1 (status_number (get_or m.now.entries v no_entry).status)) }
+{
+    let mut set = 0;
+    for v in 0..32 {
+        set = joined_if(set, v, has_entry(&m.entries[v]));
+    }
+    set
+}
+
+/// Every view of which a note is owed may have one: joined with those, they are no more.
+#[tactic(auto, using(crate::proofs::Members::notes_inside))]
+fn notes_fine(may: u32, owed: u32) -> bool
+    ensures { result ≡ notes_fine (bit may) owed }
+{
+    owed | may == may
+}
+
+/// Notes are owed only of views that may have them: `acked` and `uacked`.
+fn store_fine(m: &State, acked: u32, uacked: u32, p: usize, s: &Store) -> bool
+    ensures { result ≡ store_noted acked uacked m.now.stores m.now.made p s.now }
 {
     there_or_blank(m.stores, p, s)
-        & acks_fine(m, s.acksowed)
-        & uacks_fine(m, s.uacksowed)
+        & notes_fine(acked, s.acksowed)
+        & notes_fine(uacked, s.uacksowed)
         & viewlinks_fine(m, p, &s.viewlinks)
         & viewlinks_fine(m, p, &s.keptlinks)
 }
 
-#[tactic(auto, unfolding(protocol::specs::Words::all_from))]
 pub(crate) fn stores_fine(m: &State) -> bool
     ensures each { result ≡ all (store_fine m.now.stores m.now.made m.now.views m.now.entries) m.now.shelves }
     ensures long { length m.now.shelves ≡ 8 }
 {
+    let acked = ready(m);
+    let uacked = entered(m);
     m.shelves
         .iter()
         .enumerate()
-        .all(|(p, s)| store_fine(m, p, s))
+        .all(|(p, s)| store_fine(m, acked, uacked, p, s))
 }
