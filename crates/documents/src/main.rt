@@ -55,7 +55,7 @@ fn ask<W: Write>(out: &mut W, name: &str, m: &State, buffer: &mut [u8]) -> io::R
 
 fn main(rt: HostRuntime) -> io::Result<()> {
     let mut out = io::writer(&rt);
-    // No step of it is refused.
+    // No step of it is refused, so this error is never seen; `main` answers as those of the other programs do.
     let mut m = sixteen().map_err(|_| io::ErrorKind::InvalidInput)?;
     ask(&mut out, "run", &m, &mut [238; 103])?;
     ask(&mut out, "run", &m, &mut [238; 104])?;

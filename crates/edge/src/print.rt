@@ -8,7 +8,8 @@ use arrayvec::ArrayVec;
 use std::io::Write;
 use std::{fmt, io};
 
-/// What is said, and a line feed: in one write where the line has at most 64 bytes, so that it is written whole or not at all.
+/// What is said, and a line feed: handed to the writer at once where the line has at most 64 bytes, else piece by piece.
+// At once, so that the lines of several programs on one pipe aren't torn; no program here prints a longer one.
 pub fn line<W: Write, T: fmt::Display + Drop>(out: &mut W, said: T) -> io::Result<()>
     ensures { OnOk result (IfSome (T.output said) (λ text. Appends (W.contents out.old) (W.contents out.new) (text ++ 10 ∷ []))) }
 {

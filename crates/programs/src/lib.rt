@@ -37,7 +37,7 @@ pub fn key_of(word: &str) -> u8
     edge::number(word).unwrap_or(255)
 }
 
-/// Prints `refused N`, a line of its own, in one write.
+/// Prints `refused N`, a line of its own, handed to the writer at once.
 pub fn refuse<W: Write>(out: &mut W, number: u8) -> io::Result<()>
     ensures { OnOk result (Appends (W.contents out.old) (W.contents out.new) (refused_line number)) }
 {
