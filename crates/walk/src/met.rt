@@ -16,6 +16,18 @@ pub struct Walk {
     pub lookups: u8,
 }
 
+// The record of its fields. With no model of its own, what holds a `Bytes` isn't handed on by value twice: the check doesn't cover
+// that yet.
+impl Model for Walk {
+    ghost use Rattle.walk.specs.Answer.{Answer};
+
+    ghost Value = { Answer };
+
+    ghost view = { λ w. record { keys = w.keys; lookups = w.lookups } };
+
+    ghost inverse = { λ a. record { keys = a.keys; lookups = a.lookups } };
+}
+
 /// A walk on its way. A clause sees what it would answer now.
 #[derive(Drop)]
 pub(crate) struct Trail {
@@ -24,9 +36,9 @@ pub(crate) struct Trail {
 }
 
 impl Model for Trail {
-    ghost use Rattle.walk.specs.declared.met.Walk.{Walk};
+    ghost use Rattle.walk.specs.Answer.{Answer};
 
-    ghost Value = { Walk };
+    ghost Value = { Answer };
 
     ghost view = { λ t. record { keys = t.keys; lookups = t.lookups } };
 }

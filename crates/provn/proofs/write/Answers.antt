@@ -7,6 +7,7 @@ use Rattle.std.specs.Prelude.{Ok, Err}
 use Rattle.protocol.specs.Provn.{provn_of}
 use Rattle.provn.specs.Told.{told_written}
 use Rattle.provn.proofs.Ends.{refused, written, too_long}
+use Rattle.walk.specs.Answer.{Answer}
 use Rattle.provn.proofs.write.Goals as goal
 
 pub returns-in_err-walked-clause-result : goal.returns-in_err-walked-clause-result
@@ -22,22 +23,22 @@ pub returns-in_err-put-clause-result : goal.returns-in_err-put-clause-result
 returns-in_err-put-clause-result c =
     let r = c.in_err-put.field-0.0 in
     let w : told_written (Err r) ≡ provn_of c.args.m.now c.args.key c.args.buffer.now =
-    (too_long c.args.m.now c.args.key c.args.buffer.now c.in_ok-walked.walked.keys.items c.deref.result.now c.deref.ensures.0 _ c.in_ok-walked.ensures
+    (too_long c.args.m.now c.args.key c.args.buffer.now c.in_ok-walked.walked.keys.items c.deref.result.now (c.deref.ensures.0 ∙ ap (λ (w : Answer). w.keys.items) c.walked.view_is) _ c.in_ok-walked.ensures
     c.deref-2.result.now (c.deref-2.ensures.0 ∙ c.document-text.ensures) r _ c.in_err-put.ensures.number c.in_err-put.ensures.bytes).0 in
     search rules
 
 pub returns-in_err-put-clause-buffer : goal.returns-in_err-put-clause-buffer
 returns-in_err-put-clause-buffer c =
-    (too_long c.args.m.now c.args.key c.args.buffer.now c.in_ok-walked.walked.keys.items c.deref.result.now c.deref.ensures.0 _ c.in_ok-walked.ensures
+    (too_long c.args.m.now c.args.key c.args.buffer.now c.in_ok-walked.walked.keys.items c.deref.result.now (c.deref.ensures.0 ∙ ap (λ (w : Answer). w.keys.items) c.walked.view_is) _ c.in_ok-walked.ensures
     c.deref-2.result.now (c.deref-2.ensures.0 ∙ c.document-text.ensures) c.in_err-put.field-0.0 _ c.in_err-put.ensures.number c.in_err-put.ensures.bytes).1
 
 pub returns-clause-result : goal.returns-clause-result
 returns-clause-result c =
     ap (λ (n : ℕ). record { answer = 0; len = n }) (c.len.ensures.value ∙ sym (ap length c.deref-2.ensures.0))
-    ∙ (written c.args.m.now c.args.key c.args.buffer.now c.in_ok-walked.walked.keys.items c.deref.result.now c.deref.ensures.0 _ c.in_ok-walked.ensures
+    ∙ (written c.args.m.now c.args.key c.args.buffer.now c.in_ok-walked.walked.keys.items c.deref.result.now (c.deref.ensures.0 ∙ ap (λ (w : Answer). w.keys.items) c.walked.view_is) _ c.in_ok-walked.ensures
     c.deref-2.result.now (c.deref-2.ensures.0 ∙ c.document-text.ensures) (Ok tt) _ c.in_ok-put.ensures.number c.in_ok-put.ensures.bytes).0
 
 pub returns-clause-buffer : goal.returns-clause-buffer
 returns-clause-buffer c =
-    (written c.args.m.now c.args.key c.args.buffer.now c.in_ok-walked.walked.keys.items c.deref.result.now c.deref.ensures.0 _ c.in_ok-walked.ensures
+    (written c.args.m.now c.args.key c.args.buffer.now c.in_ok-walked.walked.keys.items c.deref.result.now (c.deref.ensures.0 ∙ ap (λ (w : Answer). w.keys.items) c.walked.view_is) _ c.in_ok-walked.ensures
     c.deref-2.result.now (c.deref-2.ensures.0 ∙ c.document-text.ensures) (Ok tt) _ c.in_ok-put.ensures.number c.in_ok-put.ensures.bytes).1
